@@ -1,0 +1,11 @@
+use mathlib.Core.Path.{refl}
+use Rattle.cdf_format.specs.Grammar.{known}
+use Rattle.cdf_format.proofs.grammar.is_known.Statement.{statement}
+use Rattle.cdf_format.proofs.grammar.is_known.Tie as tie
+
+returns : tie.Need-returns
+unfolding known
+returns c = refl
+
+pub is-known-spec : {M : Type 1} → statement M
+is-known-spec = tie.close (tie.spec returns)

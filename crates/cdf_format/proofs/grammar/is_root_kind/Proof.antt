@@ -1,0 +1,12 @@
+use mathlib.Core.Bool.{_||_, or-false}
+use lib.Dec.{eqb}
+use Rattle.cdf_format.specs.Grammar.{rootKind, member}
+use Rattle.cdf_format.proofs.grammar.is_root_kind.Statement.{statement}
+use Rattle.cdf_format.proofs.grammar.is_root_kind.Tie as tie
+
+returns : tie.Need-returns
+unfolding rootKind member
+returns c = simp or-false
+
+pub is-root-kind-spec : {M : Type 1} → statement M
+is-root-kind-spec = tie.close (tie.spec returns)

@@ -1,0 +1,18 @@
+-- What is claimed of this crate's definitions. The term of this record stands in proofs/Proved.
+use Prim.Native.Nat.{ℕ, _≤_}
+use mathlib.Core.Path.{_≡_}
+use mathlib.Core.Bool.{true}
+use mathlib.Core.List.{List}
+use Rattle.cdf_format.specs.Layout.{Layout}
+use Rattle.cdf_format.specs.Units.{unfinished, fault, listing, listingIn}
+use Rattle.cdf_format.specs.Samples.{samples, allHold}
+
+pub record Claims : Type 0 where
+  -- The check's definition answers K1 to K12 as 01 says.
+  pub samples-hold : allHold samples ≡ true
+  -- No bytes run out of fuel, in any layout: the unit list is whole or ends with a fault.
+  pub finishes : (l : Layout) (s : List ℕ) → listing l s .end ≡ unfinished → ⊥
+  -- The same one level down, whatever the enclosing unit has had.
+  pub finishes-in : (l : Layout) (had : ℕ) (s : List ℕ) → listingIn l had s .end ≡ unfinished → ⊥
+  -- A fault's number is one that 01 gives the check: 3 to 10.
+  pub numbered : (l : Layout) (s : List ℕ) {n at : ℕ} → listing l s .end ≡ fault n at → (3 ≤ n) × (n ≤ 10)

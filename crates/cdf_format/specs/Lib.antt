@@ -1,0 +1,9 @@
+pub mod Layout
+pub mod Grammar
+pub mod Data
+pub mod Judge
+pub mod Units
+pub mod Check
+pub mod Stack
+pub mod Samples
+pub mod Claims
