@@ -9,7 +9,7 @@ use lib.ListN.{length, take, drop}
 use Rattle.cdf_format.specs.Layout.{Layout, prefixOf, marked, lengthAt, idAt, actionAt, lengthFits}
 use Rattle.cdf_format.specs.Grammar.{known, admits, complete}
 use Rattle.cdf_format.specs.Judge.{headOf, contentOf, foundBy, judgeHead, judgeBy, judgeOf}
-use Rattle.cdf_format.specs.Units.{Next, whole, broken, listed, after, hadOf, closed, within, orElse, unitAt, nextAt, next, openAt, closingAt, End, unfinished, ended, fault, Listing, goOn, listFrom, listBy}
+use Rattle.cdf_format.specs.Units.{Next, whole, broken, listed, after, hadOf, closed, within, orElse, unitAt, nextAt, next, openAt, closingAt, End, unfinished, ended, fault, goOn, listFrom, listBy}
 use Rattle.cdf_format.specs.declared.Unit.{Unit}
 use Rattle.cdf_format.specs.declared.Head.{Head}
 use Rattle.cdf_format.specs.declared.Head.the-variants.{Stop, Prefix}

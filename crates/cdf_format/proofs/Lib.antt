@@ -1,6 +1,7 @@
 pub mod Tests
 pub mod Match
 pub mod Rows
+pub mod Ranks
 pub mod Others
 pub mod Parts
 pub mod Names

@@ -5,7 +5,7 @@ use mathlib.Core.Bool.{Bool, true, false, _&&_, _||_, or-false}
 use mathlib.Core.List.{List, [], _∷_}
 use native.Mathlib.Omega.{arith}
 use borrow.Author.Tests.{le-leb, lt-leb, eqb-true}
-use lib.Dec.{T, eqb, leb}
+use lib.Dec.{T, eqb}
 use lib.ListN.{List·getD-eq-default}
 use Rattle.cdf_format.specs.Grammar.{member, Rule, blank, name, nameValue, value, numbers, Kind, kinds, kindOf, known, actionAllowed}
 use Rattle.cdf_format.proofs.Tests.{below, and-left, and-right, is-true}

@@ -1,9 +1,10 @@
 -- What is claimed of this crate's definitions. The term of this record stands in proofs/Proved.
-use Prim.Native.Nat.{ℕ, _≤_}
+use Prim.Native.Nat.{ℕ, _*_, _≤_}
 use mathlib.Core.Path.{_≡_}
 use mathlib.Core.Bool.{true}
 use mathlib.Core.List.{List}
-use Rattle.cdf_format.specs.Layout.{Layout}
+use lib.ListN.{length}
+use Rattle.cdf_format.specs.Layout.{Layout, prefixOf}
 use Rattle.cdf_format.specs.Units.{unfinished, fault, listing, listingIn}
 use Rattle.cdf_format.specs.Samples.{samples, allHold}
 
@@ -16,3 +17,5 @@ pub record Claims : Type 0 where
   pub finishes-in : (l : Layout) (had : ℕ) (s : List ℕ) → listingIn l had s .end ≡ unfinished → ⊥
   -- A fault's number is one that 01 gives the check: 3 to 10.
   pub numbered : (l : Layout) (s : List ℕ) {n at : ℕ} → listing l s .end ≡ fault n at → (3 ≤ n) × (n ≤ 10)
+  -- At most n / 6 units are listed of any n bytes; in another layout, n by its prefix.
+  pub few : (l : Layout) (s : List ℕ) → length (listing l s .units) * prefixOf l ≤ length s

@@ -1,7 +1,7 @@
 -- The rules of a unit's own data, on the unit's bytes after its prefix (01, "One unit"). A broken rule names the first
 -- byte that breaks it (02, b).
 use Prim.Native.Nat.{ℕ, suc, _+_}
-use mathlib.Core.Bool.{Bool, true, false, cond, _&&_, _||_}
+use mathlib.Core.Bool.{Bool, cond, _&&_, _||_}
 use mathlib.Core.List.{List, [], _∷_}
 use lib.ListN.{length, take}
 use lib.Dec.{leb, eqb}

@@ -1,7 +1,7 @@
 -- The rules 3 to 9 for the unit at the front of s, which is all that the enclosing unit has left (01, "The numbers given
 -- back"). Positions are added by whoever asks, so a unit is judged the same wherever it stands.
 use Prim.Native.Nat.{ℕ, _+_, _-_}
-use mathlib.Core.Bool.{Bool, true, false, cond, not}
+use mathlib.Core.Bool.{Bool, cond, not}
 use mathlib.Core.List.{List}
 use lib.ListN.{length, take, drop}
 use lib.Dec.{ltb, eqb}

@@ -5,5 +5,6 @@ pub mod Judge
 pub mod Units
 pub mod Check
 pub mod Stack
+pub mod Ranks
 pub mod Samples
 pub mod Claims

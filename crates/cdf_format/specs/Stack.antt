@@ -1,7 +1,7 @@
 -- The open units as a stack, the innermost first, and one step: what a reader keeps instead of the units listed so far.
 -- No claim cites this file; a law (proofs/Follows) says that its steps give the unit list.
 use Prim.Native.Nat.{ℕ, zero, suc, _+_, _-_}
-use mathlib.Core.Bool.{Bool, true, false, cond}
+use mathlib.Core.Bool.{false, cond}
 use mathlib.Core.List.{List, [], _∷_, reverse}
 use lib.ListN.{length, take, drop}
 use lib.Dec.{eqb}

@@ -9,38 +9,26 @@ use Rattle.cdf_format.proofs.Parts.{minus-one}
 use borrow.Author.Needs.{needs}
 use Rattle.cdf_format.proofs.data.name.Statement.{statement}
 use Rattle.cdf_format.proofs.data.name.Tie as tie
-use Rattle.cdf_format.proofs.data.name.Reads as reads
-use Rattle.cdf_format.proofs.data.name.Lts as lts
-use Rattle.cdf_format.proofs.data.is_letter.Reads as is-letter-reads
-use Rattle.cdf_format.proofs.data.name_run.Reads as name-run-reads
-use Rattle.cdf_format.proofs.layout.wide.Reads as wide-reads
 
--- src/data.rt:42:9
 returns : tie.Need-returns
 returns c = name-none _ (c .if1 .taken)
 
--- src/data.rt:44:22
 shared-slice-read-wide : tie.Need-shared-slice-read-wide
 shared-slice-read-wide c = search needs
 
--- src/data.rt:44:9
 wide-requires : tie.Need-wide-requires
 wide-requires c κs = search needs
 
--- src/data.rt:46:9
 returns-2 : tie.Need-returns-2
 returns-2 c = sym (name-is _ (c .before .before .before .if1 .left) _ (c .before .wide .ensures) ∙ rw (lt-leb 1 _ (c .if2 .taken)))
 
--- src/data.rt:49:9
 returns-3 : tie.Need-returns-3
 returns-3 c =
     sym (name-is _ (c .before .before .before .before .if1 .left) _ (c .before .before .wide .ensures) ∙ rw (le-leb 1 _ (c .before .if2 .left), lt-leb _ 32 (c .if3 .taken)))
 
--- src/data.rt:51:8
 sub-if4 : tie.Need-sub-if4
 sub-if4 c = search needs
 
--- src/data.rt:52:9
 returns-4 : tie.Need-returns-4
 returns-4 c =
     sym
@@ -51,15 +39,12 @@ returns-4 c =
       lt-leb _ _ (c .if4 .taken),
     ))
 
--- src/data.rt:54:19
 shared-slice-read-is-letter : tie.Need-shared-slice-read-is-letter
 shared-slice-read-is-letter c = search needs
 
--- src/data.rt:54:9
 is-letter-requires : tie.Need-is-letter-requires
 is-letter-requires c κs = search needs
 
--- src/data.rt:55:9
 returns-5 : tie.Need-returns-5
 unfolding spelled
 returns-5 c =
@@ -67,31 +52,24 @@ returns-5 c =
     (name-by _ (c .before .before .before .before .before .before .before .before .if1 .left) _ (c .before .before .before .before .before .before .wide .ensures) (c .before .before .before .before .before .if2 .left) (c .before .before .before .before .if3 .left) (c .before .before .before .if4 .left) _ (c .before .is-letter .ensures)
     ∙ rw (not-true (c .before .is-letter .result) (c .if5 .taken), ne-eqb 0 (c .before .before .before .before .before .before .wide .result) (omega (arith, c .before .before .before .before .before .if2 .left))))
 
--- src/data.rt:57:15
 add-end : tie.Need-add-end
 add-end c = search needs
 
--- src/data.rt:58:26
 sub-name-run : tie.Need-sub-name-run
 sub-name-run c = search needs
 
--- src/data.rt:58:26
 part-name-run-start : tie.Need-part-name-run-start
 part-name-run-start c = search needs
 
--- src/data.rt:58:26
 part-name-run-end : tie.Need-part-name-run-end
 part-name-run-end c = search needs
 
--- src/data.rt:58:9
 name-run-requires : tie.Need-name-run-requires
 name-run-requires c κs = search needs
 
--- src/data.rt:62:21
 add-bad : tie.Need-add-bad
 add-bad c = omega (arith, run-short (1 + c .before .before .before .before .before .before .before .before .before .wide .result - 1) (drop 1 (c .before .before .before .before .before .before .before .before .before .before .before .before .before .args .s .now)) _ (c .before .name-run .ensures))
 
--- src/data.rt:38:1
 returns-6 : tie.Need-returns-6
 unfolding spelled
 returns-6 c =
@@ -103,7 +81,6 @@ returns-6 c =
       eq-eqb _ _ (c .if6 .taken),
     ))
 
--- src/data.rt:38:1
 returns-7 : tie.Need-returns-7
 unfolding spelled
 returns-7 c =

@@ -4,33 +4,23 @@ use Rattle.cdf_format.proofs.Taken.{name-short}
 use borrow.Author.Needs.{needs}
 use Rattle.cdf_format.proofs.data.name_and_value.Statement.{statement}
 use Rattle.cdf_format.proofs.data.name_and_value.Tie as tie
-use Rattle.cdf_format.proofs.data.name_and_value.Reads as reads
-use Rattle.cdf_format.proofs.data.name_and_value.Lts as lts
-use Rattle.cdf_format.proofs.data.name.Reads as name-reads
-use Rattle.cdf_format.proofs.data.value.Reads as value-reads
 
--- src/data.rt:82:11
 name-requires : tie.Need-name-requires
 name-requires c κs = search needs
 
--- src/data.rt:83:20
 enum-known-k : tie.Need-enum-known-k
 enum-known-k c = search needs
 
--- src/data.rt:83:26
 value-requires : tie.Need-value-requires
 value-requires c κs = name-short _ _ (sym (c .before .before .before .name .ensures) ∙ c .before .k .given .1)
 
--- src/data.rt:84:21
 enum-known-k-2 : tie.Need-enum-known-k-2
 enum-known-k-2 c = search needs
 
--- src/data.rt:79:1
 returns : tie.Need-returns
 unfolding valueAfter
 returns c = rw (← c .before .before .before .before .name .ensures, c .before .before .k .given .1) (c .value .ensures)
 
--- src/data.rt:79:1
 returns-2 : tie.Need-returns-2
 unfolding valueAfter
 returns-2 c = rw (← c .before .before .before .name .ensures, c .before .k2 .given .1)

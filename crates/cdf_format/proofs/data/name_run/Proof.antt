@@ -7,9 +7,6 @@ use lib.ListN.{length}
 use Rattle.cdf_format.proofs.Names.{Run, begun, stopped, on, ended}
 use Rattle.cdf_format.proofs.data.name_run.Statement.{statement}
 use Rattle.cdf_format.proofs.data.name_run.Tie as tie
-use Rattle.cdf_format.proofs.data.name_run.Reads as reads
-use Rattle.cdf_format.proofs.data.name_run.Lts as lts
-use Rattle.cdf_format.proofs.data.is_name_byte.Reads as is-name-byte-reads
 
 abbrev Inv-loop : tie.InvT-loop
 Inv-loop s i₀ i = Run s i
@@ -17,41 +14,33 @@ Inv-loop s i₀ i = Run s i
 abbrev μ-loop : tie.MeasureT-loop
 μ-loop s i₀ i = length s - i
 
--- src/data.rt:28:5
 loop-holds : tie.Need-loop-holds Inv-loop μ-loop
 loop-holds c = begun _
 
--- src/data.rt:29:26
 shared-slice-read-is-name-byte : tie.Need-shared-slice-read-is-name-byte Inv-loop μ-loop
 shared-slice-read-is-name-byte c = omega arith
 
--- src/data.rt:29:13
 is-name-byte-requires : tie.Need-is-name-byte-requires Inv-loop μ-loop
 is-name-byte-requires c κs = search needs
 
--- src/data.rt:30:13
 returns : tie.Need-returns Inv-loop μ-loop
 returns c =
     let a = c .before .before .before .before in
     stopped _ _ (a .loop .inv) _ (c .before .before .before .loop-test .taken) (c .before .is-name-byte .ensures)
     (not-true (c .before .is-name-byte .result) (c .if1 .taken))
 
--- src/data.rt:32:9
 add-i : tie.Need-add-i Inv-loop μ-loop
 add-i c = omega arith
 
--- src/data.rt:28:5
 loop-less : tie.Need-loop-less Inv-loop μ-loop
 loop-less c = omega arith
 
--- src/data.rt:28:5
 loop-again : tie.Need-loop-again Inv-loop μ-loop
 loop-again c =
     let a = c .before .before .before .before in
     on _ _ (a .loop .inv) _ (c .before .before .before .loop-test .taken) (c .before .is-name-byte .ensures)
     (not-false (c .before .is-name-byte .result) (c .if1 .left))
 
--- src/data.rt:24:1
 returns-2 : tie.Need-returns-2 Inv-loop μ-loop
 returns-2 c = ended _ _ (c .before .loop .inv) (c .loop-test .left)
 

@@ -7,74 +7,55 @@ use Rattle.cdf_format.proofs.Others.{blank-else}
 use borrow.Author.Needs.{needs}
 use Rattle.cdf_format.proofs.data.own_data.Statement.{statement}
 use Rattle.cdf_format.proofs.data.own_data.Tie as tie
-use Rattle.cdf_format.proofs.data.own_data.Reads as reads
-use Rattle.cdf_format.proofs.data.own_data.Lts as lts
-use Rattle.cdf_format.proofs.data.name.Reads as name-reads
-use Rattle.cdf_format.proofs.data.name_and_value.Reads as name-and-value-reads
-use Rattle.cdf_format.proofs.data.numbers.Reads as numbers-reads
-use Rattle.cdf_format.proofs.data.value.Reads as value-reads
 
--- src/data.rt:110:23
 name-requires : tie.Need-name-requires
 name-requires c κs = search needs
 
--- src/data.rt:111:18
 name-and-value-requires : tie.Need-name-and-value-requires
 name-and-value-requires c κs = search needs
 
--- src/data.rt:112:19
 value-requires : tie.Need-value-requires
 value-requires c κs = search needs
 
--- src/data.rt:113:19
 numbers-requires : tie.Need-numbers-requires
 numbers-requires c κs = search needs
 
--- src/data.rt:114:14
 numbers-requires-2 : tie.Need-numbers-requires-2
 numbers-requires-2 c κs = search needs
 
--- src/data.rt:115:15
 numbers-requires-3 : tie.Need-numbers-requires-3
 numbers-requires-3 c κs = search needs
 
--- src/data.rt:106:1
 returns : tie.Need-returns
 unfolding ownData
 returns c =
     each (λ k. c .name .result ≡ ownData k (c .before .before .before .args .s .now)) (2 ∷ 5 ∷ 11 ∷ []) (c .name .ensures, (c .name .ensures, (c .name .ensures, tt))) _ (c .before .match .keys1)
 
--- src/data.rt:106:1
 returns-2 : tie.Need-returns-2
 unfolding ownData
 returns-2 c =
     each (λ k. c .name-and-value .result ≡ ownData k (c .before .before .before .args .s .now)) (3 ∷ 8 ∷ []) (c .name-and-value .ensures, (c .name-and-value .ensures, tt)) _ (c .before .match .keys2)
 
--- src/data.rt:106:1
 returns-3 : tie.Need-returns-3
 unfolding ownData
 returns-3 c =
     each (λ k. c .value .result ≡ ownData k (c .before .before .before .args .s .now)) (7 ∷ 14 ∷ []) (c .value .ensures, (c .value .ensures, tt)) _ (c .before .match .keys3)
 
--- src/data.rt:106:1
 returns-4 : tie.Need-returns-4
 unfolding ownData
 returns-4 c =
     each (λ k. c .numbers .result ≡ ownData k (c .before .before .before .args .s .now)) (6 ∷ 12 ∷ []) (c .numbers .ensures, (c .numbers .ensures, tt)) _ (c .before .match .keys4)
 
--- src/data.rt:106:1
 returns-5 : tie.Need-returns-5
 unfolding ownData
 returns-5 c =
     each (λ k. c .numbers2 .result ≡ ownData k (c .before .before .before .args .s .now)) (9 ∷ []) (c .numbers2 .ensures, tt) _ (c .before .match .keys5)
 
--- src/data.rt:106:1
 returns-6 : tie.Need-returns-6
 unfolding ownData
 returns-6 c =
     each (λ k. c .numbers3 .result ≡ ownData k (c .before .before .before .args .s .now)) (10 ∷ []) (c .numbers3 .ensures, tt) _ (c .before .match .keys6)
 
--- src/data.rt:106:1
 returns-7 : tie.Need-returns-7
 unfolding ownData kindOf member
 returns-7 c = rw (blank-else ((10 ∷ []) ∷ (9 ∷ []) ∷ (6 ∷ 12 ∷ []) ∷ (7 ∷ 14 ∷ []) ∷ (3 ∷ 8 ∷ []) ∷ (2 ∷ 5 ∷ 11 ∷ []) ∷ []) tt _ (c .match .rest))

@@ -1,26 +1,20 @@
 use Rattle.cdf_format.specs.Data.{valueFrom}
-use borrow.Author.Tests.{lt-ltb, le-ltb, le-leb, lt-leb, eq-eqb, ne-eqb}
+use borrow.Author.Tests.{le-leb, lt-leb}
 use borrow.Author.Needs.{needs}
 use Rattle.cdf_format.proofs.data.value.Statement.{statement}
 use Rattle.cdf_format.proofs.data.value.Tie as tie
-use Rattle.cdf_format.proofs.data.value.Reads as reads
-use Rattle.cdf_format.proofs.data.value.Lts as lts
 
--- src/data.rt:71:19
 add-if1 : tie.Need-add-if1
 add-if1 c = search needs
 
--- src/data.rt:74:21
 add-t7 : tie.Need-add-t7
 add-t7 c = search needs
 
--- src/data.rt:67:1
 returns : tie.Need-returns
 unfolding valueFrom
 returns c =
     rw (le-leb _ _ (c .if1 .taken))
 
--- src/data.rt:67:1
 returns-2 : tie.Need-returns-2
 unfolding valueFrom
 returns-2 c =

@@ -2,30 +2,21 @@ use Rattle.cdf_format.specs.Grammar.{admits}
 use borrow.Author.Needs.{needs}
 use Rattle.cdf_format.proofs.grammar.admitted.Statement.{statement}
 use Rattle.cdf_format.proofs.grammar.admitted.Tie as tie
-use Rattle.cdf_format.proofs.grammar.admitted.Reads as reads
-use Rattle.cdf_format.proofs.grammar.admitted.Lts as lts
-use Rattle.cdf_format.proofs.grammar.had_after.Reads as had-after-reads
-use Rattle.cdf_format.proofs.grammar.is_root_kind.Reads as is-root-kind-reads
 
--- src/grammar.rt:116:12
 is-root-kind-requires : tie.Need-is-root-kind-requires
 is-root-kind-requires c κs = search needs
 
--- src/grammar.rt:117:13
 returns : tie.Need-returns
 unfolding admits
 returns c = rw (c .before .before .if1 .taken, ← c .before .is-root-kind .ensures, c .if2 .taken)
 
--- src/grammar.rt:119:9
 returns-2 : tie.Need-returns-2
 unfolding admits
 returns-2 c = rw (c .before .before .if1 .taken, ← c .before .is-root-kind .ensures, c .if2 .left)
 
--- src/grammar.rt:121:5
 had-after-requires : tie.Need-had-after-requires
 had-after-requires c κs = search needs
 
--- src/grammar.rt:112:1
 returns-3 : tie.Need-returns-3
 unfolding admits
 returns-3 c = rw (c .before .if1 .left) (c .had-after .ensures)

@@ -1,5 +1,4 @@
-use mathlib.Core.Bool.{_||_, or-false}
-use lib.Dec.{eqb}
+use mathlib.Core.Bool.{or-false}
 use Rattle.cdf_format.specs.Grammar.{rootKind, member}
 use Rattle.cdf_format.proofs.grammar.is_root_kind.Statement.{statement}
 use Rattle.cdf_format.proofs.grammar.is_root_kind.Tie as tie

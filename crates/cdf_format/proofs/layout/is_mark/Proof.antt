@@ -1,15 +1,10 @@
 use borrow.Author.Needs.{needs}
 use Rattle.cdf_format.proofs.layout.is_mark.Statement.{statement}
 use Rattle.cdf_format.proofs.layout.is_mark.Tie as tie
-use Rattle.cdf_format.proofs.layout.is_mark.Reads as reads
-use Rattle.cdf_format.proofs.layout.is_mark.Lts as lts
-use Rattle.cdf_format.proofs.layout.second_mark.Reads as second-mark-reads
 
--- src/layout.rt:45:9
 second-mark-requires : tie.Need-second-mark-requires
 second-mark-requires c κs = search needs
 
--- src/layout.rt:42:1
 returns : tie.Need-returns
 returns c = rw (c .second-mark .ensures)
 

@@ -7,71 +7,53 @@ use Rattle.cdf_format.specs.declared.Edition.the-variants.{Second}
 use borrow.Author.Needs.{needs}
 use Rattle.cdf_format.proofs.layout.length_at.Statement.{statement}
 use Rattle.cdf_format.proofs.layout.length_at.Tie as tie
-use Rattle.cdf_format.proofs.layout.length_at.Reads as reads
-use Rattle.cdf_format.proofs.layout.length_at.Lts as lts
-use Rattle.cdf_format.proofs.layout.pair.Reads as pair-reads
 
 long : (e : Edition) (n : ℕ) → e ≡ Second → prefixOf (layoutOf e) ≤ n → 8 ≤ n
 long e n q h = rw q at h
 
--- src/layout.rt:69:32
 enum-told : tie.Need-enum-told
 enum-told c = search needs
 
--- src/layout.rt:69:32
 shared-slice-read-pair : tie.Need-shared-slice-read-pair
 shared-slice-read-pair c = search needs
 
--- src/layout.rt:69:38
 shared-slice-read-pair-2 : tie.Need-shared-slice-read-pair-2
 shared-slice-read-pair-2 c = search needs
 
--- src/layout.rt:69:27
 pair-requires : tie.Need-pair-requires
 pair-requires c κs = search needs
 
--- src/layout.rt:70:33
 enum-told-2 : tie.Need-enum-told-2
 enum-told-2 c = search needs
 
--- src/layout.rt:70:33
 shared-slice-read-pair-3 : tie.Need-shared-slice-read-pair-3
 shared-slice-read-pair-3 c = search needs
 
--- src/layout.rt:70:39
 shared-slice-read-pair-4 : tie.Need-shared-slice-read-pair-4
 shared-slice-read-pair-4 c = search needs
 
--- src/layout.rt:70:28
 pair-requires-2 : tie.Need-pair-requires-2
 pair-requires-2 c κs = search needs
 
--- src/layout.rt:70:28
 mul-result : tie.Need-mul-result
 mul-result c = search needs
 
--- src/layout.rt:70:60
 shared-slice-read-pair-5 : tie.Need-shared-slice-read-pair-5
 shared-slice-read-pair-5 c = omega (arith, long (c .before .before .before .before .before .before .before .args .edition) _ (c .before .before .before .before .enum-told2 .given .1) (c .before .before .before .before .before .before .before .pre))
 
--- src/layout.rt:70:66
 shared-slice-read-pair-6 : tie.Need-shared-slice-read-pair-6
 shared-slice-read-pair-6 c = omega (arith, long (c .before .before .before .before .before .before .before .before .args .edition) _ (c .before .before .before .before .before .enum-told2 .given .1) (c .before .before .before .before .before .before .before .before .pre))
 
--- src/layout.rt:70:55
 pair-requires-3 : tie.Need-pair-requires-3
 pair-requires-3 c κs = search needs
 
--- src/layout.rt:70:28
 add-result : tie.Need-add-result
 add-result c = search needs
 
--- src/layout.rt:64:1
 returns : tie.Need-returns
 unfolding lengthAt
 returns c = rw (c .before .before .before .enum-told .given .1) (omega (arith, c .pair .ensures .0))
 
--- src/layout.rt:64:1
 returns-2 : tie.Need-returns-2
 unfolding lengthAt
 returns-2 c = rw (c .before .before .before .before .before .before .enum-told2 .given .1) (omega (arith, c .before .before .before .pair2 .ensures .0, c .pair3 .ensures .0))

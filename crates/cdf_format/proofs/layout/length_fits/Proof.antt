@@ -2,20 +2,14 @@ use Rattle.cdf_format.specs.Layout.{lengthFits}
 use borrow.Author.Needs.{needs}
 use Rattle.cdf_format.proofs.layout.length_fits.Statement.{statement}
 use Rattle.cdf_format.proofs.layout.length_fits.Tie as tie
-use Rattle.cdf_format.proofs.layout.length_fits.Reads as reads
-use Rattle.cdf_format.proofs.layout.length_fits.Lts as lts
-use Rattle.cdf_format.proofs.layout.limit.Reads as limit-reads
 
--- src/layout.rt:79:13
 limit-requires : tie.Need-limit-requires
 limit-requires c κs = search needs
 
--- src/layout.rt:80:9
 returns : tie.Need-returns
 unfolding lengthFits
 returns c = rw (c .before .if1 .taken, c .limit .ensures)
 
--- src/layout.rt:75:1
 returns-2 : tie.Need-returns-2
 unfolding lengthFits
 returns-2 c = rw (c .if1 .left)

@@ -2,22 +2,16 @@ use native.Mathlib.Omega.{arith}
 use borrow.Author.Needs.{needs}
 use Rattle.cdf_format.proofs.layout.prefix.Statement.{statement}
 use Rattle.cdf_format.proofs.layout.prefix.Tie as tie
-use Rattle.cdf_format.proofs.layout.prefix.Reads as reads
-use Rattle.cdf_format.proofs.layout.prefix.Lts as lts
 
--- src/layout.rt:17:27
 enum-told : tie.Need-enum-told
 enum-told c = search needs
 
--- src/layout.rt:18:28
 enum-told-2 : tie.Need-enum-told-2
 enum-told-2 c = search needs
 
--- src/layout.rt:12:1
 returns : tie.Need-returns
 returns c = (rw (c .enum-told .given .1), (omega arith, omega arith))
 
--- src/layout.rt:12:1
 returns-2 : tie.Need-returns-2
 returns-2 c = (rw (c .enum-told2 .given .1), (omega arith, omega arith))
 

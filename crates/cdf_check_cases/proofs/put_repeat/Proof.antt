@@ -1,0 +1,38 @@
+-- `cdf_check_cases::put_repeat` meets its contract. The bytes stay within the array, and the measure is the number of turns left.
+-- Assumes nothing.
+use Prim.Native.Nat.{_≤_}
+use mathlib.Core.Path.{_≡_}
+use lib.ListN.{length}
+use borrow.Author.Needs.{needs}
+use Rattle.cdf_check_cases.proofs.put_repeat.Statement.{statement}
+use Rattle.cdf_check_cases.proofs.put_repeat.Tie as tie
+
+abbrev Inv-loop : tie.InvT-loop
+Inv-loop s₀ n back count end₀ left₀ s end left = (end ≤ length s) × (length s ≡ length s₀)
+
+abbrev μ-loop : tie.MeasureT-loop
+μ-loop s₀ n back count end₀ left₀ s end left = left
+
+loop-holds : tie.Need-loop-holds Inv-loop μ-loop
+loop-holds c = search needs
+
+put-like-requires : tie.Need-put-like-requires Inv-loop μ-loop
+put-like-requires c κs = search needs
+
+sub-left : tie.Need-sub-left Inv-loop μ-loop
+sub-left c = search needs
+
+loop-less : tie.Need-loop-less Inv-loop μ-loop
+loop-less c = search needs
+
+loop-again : tie.Need-loop-again Inv-loop μ-loop
+loop-again c = search needs
+
+same-length : tie.Need-same-length Inv-loop μ-loop
+same-length c = search needs
+
+returns : tie.Need-returns Inv-loop μ-loop
+returns c = search needs
+
+pub put-repeat-spec : {M : Type 1} → statement M
+put-repeat-spec = tie.close (tie.spec Inv-loop μ-loop loop-holds put-like-requires sub-left loop-less loop-again same-length returns)

@@ -1,0 +1,221 @@
+-- Stepping over the encoding of trees that fit lists their units in order.
+use mathlib.Core.Path.{_≡_, refl, sym, ap, _∙_}
+use mathlib.Core.Bool.{Bool, true, false}
+use mathlib.Core.List.{List, [], _∷_, _++_, append-assoc, append-nil, reverseAux, reverseAux-append, reverseAux-reverseAux-nil}
+use Prim.Native.Nat.{ℕ, suc, _+_, _-_, _^_, _≤_, _<_}
+use native.Mathlib.Omega.{arith}
+use lib.ListN.{length, take, drop, length-append, length-drop}
+use lib.Seq.{take-append-add, drop-at, drop-drop}
+use Rattle.cdf_format.specs.Layout.{Layout, prefixOf}
+use Rattle.cdf_format.specs.Grammar.{opens, nothing, admit, admits, rootKind, skipped}
+use Rattle.cdf_format.specs.Judge.{judgeOf}
+use Rattle.cdf_format.specs.Units.{after, listing, ended}
+use Rattle.cdf_format.specs.Stack.{opened, entered, withHad, step, stepsFrom}
+use Rattle.cdf_format.specs.declared.Unit.{Unit}
+use Rattle.cdf_format.specs.declared.Open.{Open}
+use Rattle.cdf_format.specs.declared.Judged.the-variants.{Found}
+use Rattle.cdf_format.proofs.Entering.{unitOf}
+use Rattle.cdf_grammar.specs.Trees.{Forest, none, tree, ids, units}
+use Rattle.cdf_grammar.specs.Encoding.{unitBytes, encode, list}
+use Rattle.cdf_grammar.proofs.Fits.{through, through-none, complete-some, ownOf, Passes, Fits}
+use Rattle.cdf_grammar.proofs.Prefixes.{length-prefix}
+use Rattle.cdf_grammar.proofs.Built.{encode-none, encode-tree, sizeOf, unit-is, length-unit, unit-judged}
+use Rattle.cdf_grammar.proofs.Stepping.{fresh, admits-nested, step-inside, step-closes, steps-end, steps-on}
+use Rattle.cdf_grammar.proofs.Stepping.{listing-steps, enters, opened-parent, opened-leaf}
+
+root-admits : (had id : ℕ) → rootKind id ≡ true → admits true had id ≡ skipped
+unfolding admits
+root-admits had id e = rw e
+
+-- Where the units nested in a unit with this text stand.
+abbrev innerAt : Layout → ℕ → List ℕ → ℕ
+innerAt l pos text = pos + prefixOf l + length text
+
+-- The unit at the front of a forest, as it is listed.
+abbrev unitHere : Layout → ℕ → ℕ → ℕ → List ℕ → Forest → Unit
+unitHere l pos id action text inner =
+    let body : ℕ = pos + prefixOf l in
+    let end : ℕ = body + (length text + length (encode l inner)) in
+    record { id = id; action = action; start = pos; own = body + ownOf id text; end = end }
+
+unit-here : (l : Layout) (pos id action : ℕ) (text : List ℕ) (inner : Forest) →
+    unitOf pos id action (prefixOf l + ownOf id text) (sizeOf l text inner) ≡ unitHere l pos id action text inner
+unit-here l pos id action text inner =
+    let u = unitHere l pos id action text inner in
+    let own : pos + (prefixOf l + ownOf id text) ≡ u .own = omega arith in
+    let end : pos + sizeOf l text inner ≡ u .end = omega arith in
+    rw (own, end)
+
+list-tree : (l : Layout) (pos id action : ℕ) (text : List ℕ) (inner rest : Forest) →
+    list l pos (tree id action text inner rest)
+    ≡ unitHere l pos id action text inner
+    ∷ (list l (innerAt l pos text) inner ++ list l (unitHere l pos id action text inner .end) rest)
+unfolding list
+list-tree l pos id action text inner rest = refl
+
+list-one : (l : Layout) (pos id action : ℕ) (text : List ℕ) (inner : Forest) →
+    list l pos (tree id action text inner none) ≡ unitHere l pos id action text inner ∷ list l (innerAt l pos text) inner
+unfolding list
+list-one l pos id action text inner = rw append-nil
+
+module _ (l : Layout) (S : List ℕ) where
+  -- Over a forest that stands at a position, in an open unit that admits its trees and has room for them.
+  abbrev Listed : Forest → Type 0
+  Listed f =
+      (pos : ℕ) (more : List ℕ) (o : Open) (os : List Open) (F : ℕ) (us : List Unit) →
+      drop pos S ≡ encode l f ++ more → pos + length (encode l f) ≤ o .end → (through (o .had) (ids f) ≡ 0 → ⊥) →
+      stepsFrom (units f + F) l S (step l S (o ∷ os) pos) us
+      ≡ stepsFrom F l S (step l S (withHad o (through (o .had) (ids f)) ∷ os) (pos + length (encode l f)))
+      (reverseAux (list l pos f) us)
+
+  module _ (pos id action : ℕ) (text : List ℕ) (inner : Forest) where
+    abbrev u : Unit
+    u = unitHere l pos id action text inner
+
+    module _ (more : List ℕ) (here : drop pos S ≡ unitBytes l id action text (encode l inner) ++ more) where
+      inner-here : drop (innerAt l pos text) S ≡ encode l inner ++ more
+      inner-here =
+          rw (
+            ← drop-drop (length text) (pos + prefixOf l) S,
+            ← drop-drop (prefixOf l) pos S,
+            here,
+            unit-is,
+            append-assoc,
+            append-assoc,
+            drop-at _ _ _ (length-prefix l (sizeOf l text inner) action id),
+            drop-at text (encode l inner ++ more) (length text) refl,
+          )
+
+      rest-here : drop (u .end) S ≡ more
+      rest-here =
+          let n = length (encode l inner) in
+          let e : u .end ≡ innerAt l pos text + n = omega arith in
+          rw (e, ← drop-drop n (innerAt l pos text) S, inner-here, drop-at (encode l inner) more n refl)
+
+      module _ (p : Passes l id action text inner) (over-inner : Listed inner) where
+        -- A unit that admits others closes at its end; any other has none nested.
+        over-opened : (b : Bool) → opens id ≡ b → (os : List Open) (F : ℕ) (us : List Unit) →
+            stepsFrom (units inner + F) l S (step l S (opened u os) (after u)) us
+            ≡ stepsFrom F l S (step l S os (u .end)) (reverseAux (list l (innerAt l pos text) inner) us)
+        unfolding units list encode withHad
+        over-opened true e os F us =
+            let w = opened-parent u os e in
+            let had = through (nothing id) (ids inner) in
+            let full = p .full e in
+            let end : innerAt l pos text + length (encode l inner) ≡ u .end = omega arith in
+            rw (
+              w .0,
+              w .1,
+              p .exact e,
+              over-inner (innerAt l pos text) more (fresh u) os F us inner-here (omega arith) (complete-some had full),
+              end,
+              step-closes l S (withHad (fresh u) had) os (u .end) refl,
+              full,
+            )
+        over-opened false e os F us =
+            let w = opened-leaf u os e in
+            let fuel : 0 + F ≡ F = omega arith in
+            rw (w .0, w .1, p .leaf e, fuel)
+
+        over-entered : (around : ℕ → List Open) (next F : ℕ) (us : List Unit) →
+            stepsFrom (suc (units inner + F)) l S
+            (entered pos around (Found id action (prefixOf l + ownOf id text) (sizeOf l text inner) next)) us
+            ≡ stepsFrom F l S (step l S (around next) (u .end)) (reverseAux (list l (innerAt l pos text) inner) (u ∷ us))
+        over-entered around next F us =
+            rw (enters, unit-here l pos id action text inner, steps-on) (over-opened (opens id) refl (around next) F (u ∷ us))
+
+  over-none : Listed none
+  unfolding units ids through list withHad
+  over-none pos more o os F us here room some =
+      let fuel : 0 + F ≡ F = omega arith in
+      let at : pos + 0 ≡ pos = omega arith in
+      rw (fuel, at)
+
+  module _ (small : length S < 256 ^ l .lengthBytes) where
+    over-tree : (id action : ℕ) (text : List ℕ) (inner rest : Forest) → Passes l id action text inner → Listed inner →
+        Listed rest → Listed (tree id action text inner rest)
+    unfolding units ids through withHad
+    over-tree id action text inner rest p over-inner over-rest pos more o os F us here room some =
+        let next = admit (o .had) id in
+        let end = unitHere l pos id action text inner .end in
+        let bytes = unitBytes l id action text (encode l inner) in
+        let later = encode l rest ++ more in
+        let front : drop pos S ≡ bytes ++ later = rw (encode-tree, append-assoc) at here in
+        let whole : length (encode l (tree id action text inner rest)) ≡ length (bytes ++ encode l rest) = rw encode-tree in
+        let long : length (bytes ++ encode l rest) ≡ sizeOf l text inner + length (encode l rest) = simp (length-append, length-unit) in
+        let fit : sizeOf l text inner ≤ length (drop pos S) = rw front (simp (length-append, length-unit) (omega arith)) in
+        let n = o .end - pos - length (bytes ++ encode l rest) in
+        let cut : o .end - pos ≡ length (bytes ++ encode l rest) + n = omega arith in
+        let kept = take-append-add (bytes ++ encode l rest) more n in
+        let before = append-assoc bytes (encode l rest) more in
+        let behind = append-assoc bytes (encode l rest) (take n more) in
+        let left : take (o .end - pos) (drop pos S) ≡ bytes ++ (encode l rest ++ take n more) = cc in
+        let some-next : next ≡ 0 → ⊥ = λ e. some (ap (λ h. through h (ids rest)) e ∙ through-none (ids rest)) in
+        let nested : false ≡ true → ⊥ = λ r. let z : _≡_ {A = ℕ} 0 1 = cc in omega arith in
+        let few : sizeOf l text inner < 256 ^ l .lengthBytes = omega (arith, length-drop pos S) in
+        let ahead = encode l rest ++ take n more in
+        let judged = unit-judged p few false (o .had) next (admits-nested (o .had) id) some-next ahead (λ r. absurd (nested r)) in
+        let fuel : suc (units inner + units rest) + F ≡ suc (units inner + (units rest + F)) = omega arith in
+        let stop : pos + length (encode l (tree id action text inner rest)) ≡ end + length (encode l rest) = omega arith in
+        rw (
+          fuel,
+          step-inside l S o os pos (omega arith),
+          left,
+          judged,
+          over-entered pos id action text inner later front p over-inner (λ had. withHad o had ∷ os) next (units rest + F) us,
+          over-rest end more (withHad o next) os F _ (rest-here pos id action text inner later front) (omega arith) some,
+          stop,
+          list-tree,
+          reverseAux-append,
+        )
+
+    over : (f : Forest) → Fits l f → Listed f
+    over none fit = over-none
+    over (tree id action text inner rest) fit =
+        over-tree id action text inner rest (fit .0) (over inner (fit .1)) (over rest (fit .2))
+
+pub length-list : (l : Layout) (pos : ℕ) (t : Forest) → length (list l pos t) ≡ units t
+unfolding units list
+length-list l pos none = refl
+length-list l pos (tree id action text inner rest) = rw (length-append, length-list l _ inner, length-list l _ rest)
+
+-- So the fuel, one more than there are bytes, is enough.
+few-units : (l : Layout) (t : Forest) → units t ≤ length (encode l t)
+unfolding units
+few-units l none = omega arith
+few-units l (tree id action text inner rest) =
+    let a = few-units l inner in
+    let b = few-units l rest in
+    rw (encode-tree, length-append, length-unit) (omega arith)
+
+root-lists : (l : Layout) → l .limit < 256 ^ l .lengthBytes → (s : List ℕ) (id action : ℕ) (text : List ℕ) (inner : Forest) →
+    rootKind id ≡ true → Fits l (tree id action text inner none) → encode l (tree id action text inner none) ≡ s →
+    length s ≤ l .limit → listing l s ≡ record { units = list l 0 (tree id action text inner none); end = ended }
+root-lists l wide s id action text inner root fit e short =
+    let here = sym e ∙ encode-tree l id action text inner none in
+    let long : length s ≡ sizeOf l text inner + length (encode l none) = rw (here, length-append, length-unit) in
+    let alone : (encode l none ≡ []) × (sizeOf l text inner ≤ l .limit) = (encode-none l, omega arith) in
+    let found = unit-judged (fit .0) (omega arith) true 0 skipped (root-admits 0 id root) (λ z. omega arith) _ (λ r. alone) in
+    let judged : judgeOf l true 0 s ≡ Found id action (prefixOf l + ownOf id text) (sizeOf l text inner) skipped = rw here found in
+    let left = length s - suc (units inner) in
+    let fuel : length s ≡ units inner + suc left = omega (arith, few-units l inner) in
+    let over-inner = over l s (omega arith) inner (fit .1) in
+    rw (
+      listing-steps,
+      judged,
+      fuel,
+      over-entered l s 0 id action text inner (encode l none) here (fit .0) over-inner (λ had. []) skipped (suc left) [],
+      steps-end,
+      reverseAux-reverseAux-nil,
+      list-one,
+    )
+
+pub lists : (l : Layout) → l .limit < 256 ^ l .lengthBytes → (s : List ℕ) (t : Forest) (id : ℕ) → ids t ≡ id ∷ [] →
+    rootKind id ≡ true → Fits l t → encode l t ≡ s → length s ≤ l .limit →
+    listing l s ≡ record { units = list l 0 t; end = ended }
+unfolding ids
+lists l wide s none id one root fit e short = let z : _≡_ {A = ℕ} 0 1 = cc in absurd (omega arith)
+lists l wide s (tree i action text inner none) id one root fit e short =
+    let same : id ≡ i = cc in root-lists l wide s i action text inner (rw same at root) fit e short
+lists l wide s (tree i action text inner (tree j a x f g)) id one root fit e short =
+    let z : _≡_ {A = ℕ} 0 1 = cc in absurd (omega arith)

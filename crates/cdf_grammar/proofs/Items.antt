@@ -1,0 +1,115 @@
+-- What the units of trees say, in order: it determines the trees, and it is what the listed units of their bytes say.
+use Prim.Native.Nat.{ℕ, _+_, _-_, _≤_, _<_}
+use mathlib.Core.Path.{_≡_, refl, sym, ap, ap₂, _∙_}
+use mathlib.Core.Bool.{Bool, true, false, cond}
+use mathlib.Core.List.{List, [], _∷_, _++_, map, append-assoc, append-nil, map-append}
+use native.Mathlib.Omega.{arith}
+use lib.ListN.{length, take, drop}
+use lib.Seq.{take-at, drop-drop, drop-append-seam}
+use Rattle.cdf_format.specs.Layout.{Layout, prefixOf}
+use Rattle.cdf_format.specs.Grammar.{opens}
+use Rattle.cdf_grammar.specs.Trees.{Forest, none, tree, ids}
+use Rattle.cdf_grammar.specs.Encoding.{prefixBytes, unitBytes, encode, list, Item, itemOf}
+use Rattle.cdf_grammar.proofs.Fits.{ownOf, Passes, Fits}
+use Rattle.cdf_format.specs.Ranks.{rank}
+use Rattle.cdf_format.proofs.Ranks.{rank-most}
+use Rattle.cdf_grammar.proofs.Ranks.{Ranked, Lower, lower, nested}
+use Rattle.cdf_grammar.proofs.Unique.{leaf-empty, unit-parts}
+use Rattle.cdf_grammar.proofs.Prefixes.{length-prefix}
+
+abbrev item : ℕ → ℕ → List ℕ → Item
+item id action text = record { id = id; action = action; text = text }
+
+-- Each unit before those nested in it.
+unfoldable pub says : Forest → List Item
+says none = []
+says (tree id action text inner rest) = item id action text ∷ (says inner ++ says rest)
+
+-- The first item, if any, is of rank n or higher.
+abbrev Upper : ℕ → List Item → Type 0
+Upper n [] = record {}
+Upper n (x ∷ xs) = n ≤ rank (x .id)
+
+-- What follows the units nested in a unit: a sibling of the unit, or what follows the siblings.
+upper : (r n : ℕ) (f : Forest) (xs : List Item) → r < n → Ranked r (ids f) → Upper n xs → Upper r (says f ++ xs)
+unfolding says ids
+upper r n none [] less ranked up = record {}
+upper r n none (x ∷ xs) less ranked up = omega arith
+upper r n (tree id action text inner rest) xs less ranked up = omega arith
+
+-- Trees end where an item ranks as high as what follows them.
+said : (l : Layout) (f g : Forest) (n : ℕ) (xs ys : List Item) → Fits l f → Fits l g → Lower n (ids f) → Lower n (ids g) →
+    Upper n xs → Upper n ys → says f ++ xs ≡ says g ++ ys → (f ≡ g) × (xs ≡ ys)
+unfolding says ids
+said l none none n xs ys p q lf lg ux uy e = (refl, e)
+said l none (tree j b t g y) n xs ys p q lf lg ux uy e = let high : n ≤ rank j = rw e at ux in absurd (omega arith)
+said l (tree i a s f x) none n xs ys p q lf lg ux uy e = let high : n ≤ rank i = rw (← e) at uy in absurd (omega arith)
+said l (tree i a s f x) (tree j b t g y) n xs ys (p, pf, px) (q, qg, qy) lf lg ux uy e =
+    let head : item i a s ≡ item j b t = cc in
+    let same-id : i ≡ j = ap (λ (z : Item). z .id) head in
+    let same-action : a ≡ b = ap (λ (z : Item). z .action) head in
+    let same-text : s ≡ t = ap (λ (z : Item). z .text) head in
+    let tail : (says f ++ says x) ++ xs ≡ (says g ++ says y) ++ ys = cc in
+    let within =
+    said l f g (rank i) (says x ++ xs) (says y ++ ys) pf qg (nested p) (rw (← same-id) at (nested q))
+    (upper (rank i) n x xs (lf .0) (lf .1) ux) (rw (← same-id) at (upper (rank j) n y ys (lg .0) (lg .1) uy))
+    (simp append-assoc at tail) in
+    let behind =
+    said l x y n xs ys px qy (lower (rank i) n (ids x) (lf .0) (lf .1)) (lower (rank j) n (ids y) (lg .0) (lg .1))
+    ux uy (within .1) in
+    (cc, behind .1)
+
+-- What the units of one tree say is said by no other.
+pub said-once : (l : Layout) (t u : Forest) {i j : ℕ} → Fits l t → Fits l u → ids t ≡ i ∷ [] → ids u ≡ j ∷ [] →
+    says t ≡ says u → t ≡ u
+said-once l t u {i} {j} p q ti uj e =
+    said l t u 5 [] [] p q (rw ti (omega (arith, rank-most i), record {})) (rw uj (omega (arith, rank-most j), record {}))
+    (record {}) (record {}) (simp append-nil e) .0
+
+-- What stands at a position, past its first bytes.
+past : (s : List ℕ) (at : ℕ) (b c : List ℕ) → drop at s ≡ b ++ c → drop (at + length b) s ≡ c
+past s at b c e = rw (← drop-drop (length b) at s, e, drop-append-seam b c)
+
+-- What stands past a unit's prefix.
+past-prefix : (l : Layout) (s : List ℕ) (at id action : ℕ) (text : List ℕ) (inner rest : Forest) (back : List ℕ) →
+    drop at s ≡ encode l (tree id action text inner rest) ++ back →
+    drop (at + prefixOf l) s ≡ text ++ (encode l inner ++ (encode l rest ++ back))
+unfolding encode
+past-prefix l s at id action text inner rest back e =
+    let len = prefixOf l + (length text + length (encode l inner)) in
+    rw (length-prefix l len action id) at
+    (past s at (prefixBytes l len action id) (text ++ (encode l inner ++ (encode l rest ++ back)))
+    (e ∙ append-assoc (unitBytes l id action text (encode l inner)) (encode l rest) back
+    ∙ unit-parts l id action text (encode l inner) (encode l rest ++ back)))
+
+-- The own data of a listed unit ends at its own end if it admits others, and else at its end.
+own-data : {l : Layout} {id action : ℕ} {text : List ℕ} {inner : Forest} → Passes l id action text inner →
+    (s : List ℕ) (body : ℕ) (rest : List ℕ) → drop body s ≡ text ++ rest →
+    take (cond (opens id) (body + ownOf id text) (body + (length text + length (encode l inner))) - body) (drop body s) ≡ text
+own-data {l} {id} {text} {inner} p s body rest e = rw e (take-at text rest _ (count (opens id) refl))
+  where
+    count : (b : Bool) → opens id ≡ b →
+        length text ≡ cond b (body + ownOf id text) (body + (length text + length (encode l inner))) - body
+    count true o = omega (arith, p .exact o)
+    count false o = omega (arith, leaf-empty p o)
+
+-- What the listed units of trees that stand at a position say.
+listed : (l : Layout) (s : List ℕ) (f : Forest) (at : ℕ) (back : List ℕ) → Fits l f → drop at s ≡ encode l f ++ back →
+    map (itemOf l s) (list l at f) ≡ says f
+unfolding list itemOf says
+listed l s none at back fits e = refl
+listed l s (tree id action text inner rest) at back (p, within, after) e =
+    let body = at + prefixOf l in
+    let own = past-prefix l s at id action text inner rest back e in
+    let nest = past s body text (encode l inner ++ (encode l rest ++ back)) own in
+    let next = past s (body + length text) (encode l inner) (encode l rest ++ back) nest in
+    let end : body + length text + length (encode l inner) ≡ body + (length text + length (encode l inner)) = omega arith in
+    let inside = listed l s inner (body + length text) (encode l rest ++ back) within nest in
+    let behind = listed l s rest (body + (length text + length (encode l inner))) back after (rw end at next) in
+    ap₂ (λ (x : List ℕ) (xs : List Item). item id action x ∷ xs)
+    (own-data p s body (encode l inner ++ (encode l rest ++ back)) own)
+    (rw (map-append, inside, behind))
+
+-- The listed units of a tree's bytes say what the tree's units say.
+pub items : (l : Layout) (s : List ℕ) (t : Forest) → Fits l t → encode l t ≡ s → map (itemOf l s) (list l 0 t) ≡ says t
+items l s t fits e = listed l s t 0 [] fits (rw append-nil (sym e))

@@ -1,0 +1,78 @@
+-- One step: the innermost open unit closes, or a unit is judged in it and entered. To unfold a step would unfold the judge
+-- and the rows too, so these equations stand for that.
+use mathlib.Core.Path.{_≡_, refl}
+use mathlib.Core.Bool.{Bool, true, false, cond}
+use mathlib.Core.List.{List, [], _∷_, reverse}
+use Prim.Native.Nat.{ℕ, suc, _+_, _-_, _<_}
+use native.Mathlib.Omega.{arith}
+use borrow.Author.Tests.{eq-eqb, ne-eqb}
+use lib.ListN.{length, take, drop}
+use Rattle.cdf_format.specs.Layout.{Layout}
+use Rattle.cdf_format.specs.Grammar.{admit, admits, opens, nothing, complete}
+use Rattle.cdf_format.specs.Judge.{judgeOf}
+use Rattle.cdf_format.specs.Units.{after, ended, listing}
+use Rattle.cdf_format.specs.Stack.{incomplete, close, refused, found, opened, entered, withHad, stepIn, step}
+use Rattle.cdf_format.specs.Stack.{stepsFrom, steps}
+use Rattle.cdf_format.specs.declared.Unit.{Unit}
+use Rattle.cdf_format.specs.declared.Open.{Open}
+use Rattle.cdf_format.specs.declared.Judged.the-variants.{Fault, Found}
+use Rattle.cdf_format.proofs.Entering.{unitOf}
+use Rattle.cdf_format.proofs.Follows.{follows}
+
+-- A unit that was just entered: it has had nothing.
+abbrev pub fresh : Unit → Open
+fresh u = record { id = u .id; start = u .start; end = u .end; had = nothing (u .id) }
+
+pub admits-nested : (had id : ℕ) → admits false had id ≡ admit had id
+unfolding admits
+admits-nested had id = refl
+
+module _ (l : Layout) (s : List ℕ) where
+  pub step-inside : (o : Open) (os : List Open) (pos : ℕ) → pos < o .end →
+      step l s (o ∷ os) pos
+      ≡ entered pos (λ had. withHad o had ∷ os) (judgeOf l false (o .had) (take (o .end - pos) (drop pos s)))
+  unfolding step stepIn close
+  step-inside o os pos h = rw (ne-eqb (o .end) pos (λ e. omega arith))
+
+  pub step-closes : (o : Open) (os : List Open) (pos : ℕ) → o .end ≡ pos →
+      step l s (o ∷ os) pos ≡ cond (complete (o .had)) (step l s os pos) (refused 10 (o .start))
+  unfolding step stepIn close
+  step-closes o os pos e = rw (eq-eqb (o .end) pos e) (go (complete (o .had)))
+    where
+      go : (b : Bool) →
+          stepIn l s pos (cond b (close os pos) (incomplete (o .start)))
+          ≡ cond b (stepIn l s pos (close os pos)) (refused 10 (o .start))
+      go true = refl
+      go false = refl
+
+  pub steps-end : (f pos : ℕ) (us : List Unit) → stepsFrom (suc f) l s (step l s [] pos) us ≡ record { units = reverse us; end = ended }
+  unfolding stepsFrom
+  steps-end f pos us = refl
+
+  pub steps-on : (f : ℕ) (u : Unit) (os : List Open) (pos : ℕ) (us : List Unit) →
+      stepsFrom (suc f) l s (found u os pos) us ≡ stepsFrom f l s (step l s os pos) (u ∷ us)
+  unfolding stepsFrom
+  steps-on f u os pos us = refl
+
+  pub listing-steps : listing l s ≡ stepsFrom (suc (length s)) l s (entered 0 (λ had. []) (judgeOf l true 0 s)) []
+  unfolding listing steps
+  listing-steps = rw (← follows l s true 0)
+
+pub faults : (pos : ℕ) (around : ℕ → List Open) (n k : ℕ) → entered pos around (Fault n k) ≡ refused n (pos + k)
+unfolding entered
+faults pos around n k = refl
+
+pub enters : (pos : ℕ) (around : ℕ → List Open) (id action own len had : ℕ) →
+    entered pos around (Found id action own len had)
+    ≡ found (unitOf pos id action own len) (opened (unitOf pos id action own len) (around had)) (after (unitOf pos id action own len))
+unfolding entered
+enters pos around id action own len had = refl
+
+module _ (u : Unit) (os : List Open) where
+  pub opened-parent : opens (u .id) ≡ true → (opened u os ≡ fresh u ∷ os) × (after u ≡ u .own)
+  unfolding opened after
+  opened-parent e = (rw e, rw e)
+
+  pub opened-leaf : opens (u .id) ≡ false → (opened u os ≡ os) × (after u ≡ u .end)
+  unfolding opened after
+  opened-leaf e = (rw e, rw e)

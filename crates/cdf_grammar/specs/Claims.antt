@@ -1,0 +1,47 @@
+-- What is claimed of the check's definition and the published grammar: the check accepts exactly what it describes (01,
+-- "What the statements have to settle"). The term of this record stands in proofs/Proved.
+use Prim.Native.Nat.{ℕ, _≤_}
+use mathlib.Core.Path.{_≡_}
+use mathlib.Core.List.{List, map}
+use mathlib.Core.Logic.{_↔_}
+use Rattle.cdf_format.specs.Layout.{Layout, layoutOf}
+use Rattle.cdf_format.specs.Units.{listing}
+use Rattle.cdf_format.specs.Check.{checkOf}
+use Rattle.cdf_format.specs.Samples.{k2}
+use Rattle.cdf_format.specs.declared.Edition.{Edition}
+use Rattle.cdf_format.specs.declared.Edition.the-variants.{First}
+use Rattle.cdf_grammar.specs.Trees.{Forest, units, depth}
+use Rattle.cdf_grammar.specs.Encoding.{Bytes, Stream, encode, list, Item, itemOf}
+use Rattle.cdf_grammar.specs.Example.{person}
+
+-- The check accepts these bytes.
+abbrev pub Accepted : Layout → List ℕ → Type 0
+Accepted l s = checkOf l s .number ≡ 0
+
+-- What the units of these bytes say, in order.
+unfoldable pub itemsOf : Layout → List ℕ → List Item
+unfolding itemOf listing
+itemsOf l s = map (itemOf l s) (listing l s .units)
+
+-- Of the streams of one edition.
+pub record Of (e : Edition) : Type 0 where
+  -- Bytes are accepted exactly if a tree of the published grammar encodes to them within the limit.
+  pub exactly : (s : List ℕ) → Bytes s → Accepted (layoutOf e) s ↔ ((t : Forest) × Stream (layoutOf e) s t)
+  -- The count is that tree's number of units.
+  pub counted : (s : List ℕ) (t : Forest) → Stream (layoutOf e) s t →
+      checkOf (layoutOf e) s ≡ record { number = 0; value = units t }
+  -- There is only one such tree.
+  pub unique : (s : List ℕ) (t u : Forest) → Stream (layoutOf e) s t → Stream (layoutOf e) s u → t ≡ u
+  -- The unit list is that tree's.
+  pub listed : (s : List ℕ) (t : Forest) → Stream (layoutOf e) s t → listing (layoutOf e) s .units ≡ list (layoutOf e) 0 t
+  -- It is at most five units deep.
+  pub shallow : (s : List ℕ) (t : Forest) → Stream (layoutOf e) s t → depth t ≤ 5
+  -- Two accepted streams whose units say the same are the same bytes.
+  pub same : (s r : List ℕ) → Bytes s → Bytes r → Accepted (layoutOf e) s → Accepted (layoutOf e) r →
+      itemsOf (layoutOf e) s ≡ itemsOf (layoutOf e) r → s ≡ r
+
+pub record Claims : Type 0 where
+  -- All of this holds in each edition.
+  pub streams : (e : Edition) → Of e
+  -- The example's tree encodes to the sample K2.
+  pub example : encode (layoutOf First) person ≡ k2
