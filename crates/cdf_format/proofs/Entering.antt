@@ -1,23 +1,31 @@
 -- The stack and the listed units go on together over one more unit.
-use mathlib.Core.Path.{_≡_}
+use mathlib.Core.Path.{_≡_, refl}
 use mathlib.Core.Bool.{Bool, false, true, cond, and-true}
-use mathlib.Core.List.{List, _∷_, map}
+use mathlib.Core.List.{List, [], _∷_, map}
 use Prim.Native.Nat.{ℕ, suc, _≤_, _<_, _+_}
 use native.Mathlib.Omega.{arith}
 use borrow.Author.Tests.{le-leb}
+use lib.ListN.{length}
 use Rattle.cdf_format.specs.Grammar.{opens, nothing}
 use Rattle.cdf_format.specs.Units.{after, parents, openAt}
 use Rattle.cdf_format.specs.Stack.{opened}
+use Rattle.cdf_format.specs.Ranks.{rank}
 use Rattle.cdf_format.specs.declared.Unit.{Unit}
 use Rattle.cdf_format.specs.declared.Open.{Open}
 use Rattle.cdf_format.proofs.Nested.{reaching, Nested, narrow, still-reach}
 use Rattle.cdf_format.proofs.Had.{openOf, Before, before-later, new-had}
+
+-- However many units lie in one another, their ranks leave room for no more than five.
+abbrev pub Ranked : List Open → Type 0
+Ranked [] = record {}
+Ranked (o ∷ os) = (rank (o .had) + suc (length os) ≤ 5) × Ranked os
 
 -- What the stack has to do with the units listed so far, at the next position.
 pub record Follow (us : List Unit) (os : List Open) (pos : ℕ) : Type 0 where
   pub stack : os ≡ map (openOf us) (reaching pos us)
   pub nested : Nested pos pos (reaching pos us)
   pub before : Before pos us
+  pub ranked : Ranked os
 
 pub after-between : (u : Unit) → u .own ≤ u .end → (u .own ≤ after u) × (after u ≤ u .end)
 unfolding after
@@ -34,6 +42,8 @@ pub record Enters (us : List Unit) (os : List Open) (v : Unit) : Type 0 where
   pub around : os ≡ map (openOf (v ∷ us)) (openAt (v .start) us)
   pub nested : Nested (v .start) (v .end) (openAt (v .start) us)
   pub before : Before (v .start) us
+  pub ranked : Ranked (opened v os)
+  pub shallow : length (openAt (v .start) us) ≤ 4
 
 module _ (us : List Unit) (os : List Open) (v : Unit) (e : Enters us os v) where
   reaching-new : (pos : ℕ) → v .start < pos → pos ≤ v .end →
@@ -52,6 +62,7 @@ module _ (us : List Unit) (os : List Open) (v : Unit) (e : Enters us os v) where
         stack = rw r (stack (opens (v .id)));
         nested = rw r (nested (opens (v .id)) (after v) (omega arith) (omega arith));
         before = (omega arith, before-later us (v .start) (after v) (omega arith) (e .before));
+        ranked = e .ranked;
       }
     where
       stack : (b : Bool) →
@@ -64,6 +75,17 @@ module _ (us : List Unit) (os : List Open) (v : Unit) (e : Enters us os v) where
           Nested pos pos (cond b (v ∷ openAt (v .start) us) (openAt (v .start) us))
       nested true pos p q = (p, q, e .nested)
       nested false pos p q = narrow (openAt (v .start) us) (v .start) (v .end) pos pos (omega arith) q (e .nested)
+
+-- Entering a unit keeps the ranks: it ranks below the innermost of those around it, which then ranks as before.
+pub opened-ranked : (v : Unit) (os : List Open) → (opens (v .id) ≡ true → rank (nothing (v .id)) + suc (length os) ≤ 5) → Ranked os →
+    Ranked (opened v os)
+unfolding opened
+opened-ranked v os low h = go (opens (v .id)) low
+  where
+    go : (b : Bool) → (b ≡ true → rank (nothing (v .id)) + suc (length os) ≤ 5) →
+        Ranked (cond b (record { id = v .id; start = v .start; end = v .end; had = nothing (v .id) } ∷ os) os)
+    go true low = (low refl, h)
+    go false low = h
 
 -- The unit that was judged at a position.
 abbrev pub unitOf : ℕ → ℕ → ℕ → ℕ → ℕ → Unit

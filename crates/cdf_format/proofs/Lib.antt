@@ -17,4 +17,5 @@ pub mod Follows
 pub mod Few
 pub mod Fuel
 pub mod Faults
+pub mod Depth
 pub mod Proved

@@ -6,5 +6,6 @@ pub mod Units
 pub mod Check
 pub mod Stack
 pub mod Ranks
+pub mod States
 pub mod Samples
 pub mod Claims

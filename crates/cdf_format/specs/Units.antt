@@ -125,3 +125,10 @@ listing l s = listBy l s (judgeOf l true 0 s)
 unfoldable pub listingIn : Layout → ℕ → List ℕ → Listing
 unfolding listBy judgeOf
 listingIn l had s = listBy l s (judgeOf l false had s)
+
+-- How deep units stand: one deeper than the units that are open where they start. `us` are the units before, the last one
+-- first.
+unfoldable pub depths : List Unit → List Unit → List ℕ
+unfolding openAt
+depths us [] = []
+depths us (v ∷ vs) = suc (length (openAt (v .start) us)) ∷ depths (v ∷ us) vs

@@ -14,6 +14,8 @@ pub mod Numbers
 pub mod Prefixes
 pub mod Built
 pub mod Stepping
+pub mod Locality
+pub mod Nesting
 pub mod Forward
 pub mod Written
 pub mod Backward

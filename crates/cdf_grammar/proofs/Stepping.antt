@@ -3,7 +3,7 @@
 use mathlib.Core.Path.{_≡_, refl}
 use mathlib.Core.Bool.{Bool, true, false, cond}
 use mathlib.Core.List.{List, [], _∷_, reverse}
-use Prim.Native.Nat.{ℕ, suc, _+_, _-_, _<_}
+use Prim.Native.Nat.{ℕ, zero, suc, _+_, _-_, _<_}
 use native.Mathlib.Omega.{arith}
 use borrow.Author.Tests.{eq-eqb, ne-eqb}
 use lib.ListN.{length, take, drop}
@@ -11,7 +11,7 @@ use Rattle.cdf_format.specs.Layout.{Layout}
 use Rattle.cdf_format.specs.Grammar.{admit, admits, opens, nothing, complete}
 use Rattle.cdf_format.specs.Judge.{judgeOf}
 use Rattle.cdf_format.specs.Units.{after, ended, listing}
-use Rattle.cdf_format.specs.Stack.{incomplete, close, refused, found, opened, entered, withHad, stepIn, step}
+use Rattle.cdf_format.specs.Stack.{incomplete, close, Step, refused, found, opened, entered, withHad, stepIn, step}
 use Rattle.cdf_format.specs.Stack.{stepsFrom, steps}
 use Rattle.cdf_format.specs.declared.Unit.{Unit}
 use Rattle.cdf_format.specs.declared.Open.{Open}
@@ -53,6 +53,16 @@ module _ (l : Layout) (s : List ℕ) where
       stepsFrom (suc f) l s (found u os pos) us ≡ stepsFrom f l s (step l s os pos) (u ∷ us)
   unfolding stepsFrom
   steps-on f u os pos us = refl
+
+  -- Steps that are refused, or out of fuel, do not come to the end.
+  pub refused-never : (f n at : ℕ) (us : List Unit) → stepsFrom f l s (refused n at) us .end ≡ ended → ⊥
+  unfolding stepsFrom
+  refused-never zero n at us q = let z : _≡_ {A = ℕ} 0 1 = cc in omega arith
+  refused-never (suc f) n at us q = let z : _≡_ {A = ℕ} 0 1 = cc in omega arith
+
+  pub spent-never : (x : Step) (us : List Unit) → stepsFrom 0 l s x us .end ≡ ended → ⊥
+  unfolding stepsFrom
+  spent-never x us q = let z : _≡_ {A = ℕ} 0 1 = cc in omega arith
 
   pub listing-steps : listing l s ≡ stepsFrom (suc (length s)) l s (entered 0 (λ had. []) (judgeOf l true 0 s)) []
   unfolding listing steps

@@ -23,7 +23,7 @@ unfoldable pub itemsOf : Layout → List ℕ → List Item
 unfolding itemOf listing
 itemsOf l s = map (itemOf l s) (listing l s .units)
 
--- Of the streams of one edition.
+-- Of the streams of one edition. `A ↔ B` is 'A exactly if B', and `(t : Forest) × P t` is 'there is a t with P t'.
 pub record Of (e : Edition) : Type 0 where
   -- Bytes are accepted exactly if a tree of the published grammar encodes to them within the limit.
   pub exactly : (s : List ℕ) → Bytes s → Accepted (layoutOf e) s ↔ ((t : Forest) × Stream (layoutOf e) s t)

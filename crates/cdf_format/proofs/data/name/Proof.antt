@@ -1,3 +1,4 @@
+-- Each return by the count, the first byte or the run of the others.
 use Prim.Native.Nat.{_+_, _-_}
 use lib.ListN.{drop}
 use mathlib.Core.Path.{sym, _∙_}

@@ -1,3 +1,4 @@
+-- By the cases of the name.
 use mathlib.Core.Path.{sym, _∙_}
 use Rattle.cdf_format.specs.Data.{valueAfter}
 use Rattle.cdf_format.proofs.Taken.{name-short}

@@ -1,3 +1,4 @@
+-- By the tests of the definition.
 use Rattle.cdf_format.specs.Data.{numbersOf}
 use borrow.Author.Tests.{le-leb, lt-leb, eq-eqb, ne-eqb}
 use Rattle.cdf_format.proofs.data.numbers.Statement.{statement}

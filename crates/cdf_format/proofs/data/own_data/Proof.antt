@@ -1,3 +1,4 @@
+-- Each arm by its rule; any other id has no own data, by a test over the kinds.
 use mathlib.Core.Path.{_≡_}
 use mathlib.Core.List.{[], _∷_}
 use Rattle.cdf_format.specs.Grammar.{member, kindOf}

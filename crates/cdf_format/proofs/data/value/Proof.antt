@@ -1,3 +1,4 @@
+-- By the test of the definition.
 use Rattle.cdf_format.specs.Data.{valueFrom}
 use borrow.Author.Tests.{le-leb, lt-leb}
 use borrow.Author.Needs.{needs}

@@ -1,3 +1,4 @@
+-- The arms give the actions of their ids; any other unit has the action none, by a test over the kinds.
 use mathlib.Core.Bool.{or-false}
 use mathlib.Core.List.{[], _∷_}
 use mathlib.Core.Logic.{⊎-elim}

@@ -1,3 +1,4 @@
+-- A root by its kind, any other unit by `had_after`.
 use Rattle.cdf_format.specs.Grammar.{admits}
 use borrow.Author.Needs.{needs}
 use Rattle.cdf_format.proofs.grammar.admitted.Statement.{statement}

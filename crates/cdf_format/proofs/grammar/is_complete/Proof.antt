@@ -1,3 +1,4 @@
+-- Below 26 by computation; from there on both sides are false.
 use Prim.Native.Nat.{ℕ, _≤_}
 use mathlib.Core.Path.{_≡_, sym, _∙_}
 use mathlib.Core.Bool.{false, _&&_, _||_}

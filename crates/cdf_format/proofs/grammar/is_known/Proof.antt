@@ -1,3 +1,4 @@
+-- The definition, to the letter.
 use mathlib.Core.Path.{refl}
 use Rattle.cdf_format.specs.Grammar.{known}
 use Rattle.cdf_format.proofs.grammar.is_known.Statement.{statement}

@@ -1,3 +1,4 @@
+-- The definition, to the letter but for the empty end of its list.
 use mathlib.Core.Bool.{or-false}
 use Rattle.cdf_format.specs.Grammar.{rootKind, member}
 use Rattle.cdf_format.proofs.grammar.is_root_kind.Statement.{statement}

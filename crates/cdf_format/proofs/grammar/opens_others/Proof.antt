@@ -1,3 +1,4 @@
+-- Below 15 by computation; from there on both sides are false.
 use mathlib.Core.Path.{sym}
 use mathlib.Core.Bool.{_&&_, _||_}
 use native.Mathlib.Omega.{arith}

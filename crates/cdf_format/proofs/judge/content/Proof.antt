@@ -1,3 +1,4 @@
+-- The tests of the definition in its order.
 use Rattle.cdf_format.specs.Judge.{contentOf}
 use borrow.Author.Needs.{needs}
 use Rattle.cdf_format.proofs.judge.content.Statement.{statement}

@@ -1,3 +1,4 @@
+-- The tests of the definition in its order.
 use Rattle.cdf_format.specs.Judge.{headOf}
 use borrow.Author.Tests.{lt-ltb, le-ltb}
 use borrow.Author.Needs.{needs}

@@ -1,3 +1,4 @@
+-- By the edition's second byte.
 use borrow.Author.Needs.{needs}
 use Rattle.cdf_format.proofs.layout.is_mark.Statement.{statement}
 use Rattle.cdf_format.proofs.layout.is_mark.Tie as tie

@@ -1,3 +1,4 @@
+-- By the edition: a length of two bytes, or of two pairs.
 use Prim.Native.Nat.{ℕ, _≤_}
 use mathlib.Core.Path.{_≡_}
 use native.Mathlib.Omega.{arith}

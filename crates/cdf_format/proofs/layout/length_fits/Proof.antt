@@ -1,3 +1,4 @@
+-- By the case of the root.
 use Rattle.cdf_format.specs.Layout.{lengthFits}
 use borrow.Author.Needs.{needs}
 use Rattle.cdf_format.proofs.layout.length_fits.Statement.{statement}

@@ -1,3 +1,4 @@
+-- By the edition.
 use native.Mathlib.Omega.{arith}
 use borrow.Author.Needs.{needs}
 use Rattle.cdf_format.proofs.layout.prefix.Statement.{statement}
