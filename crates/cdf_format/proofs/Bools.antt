@@ -17,3 +17,8 @@ either false b e = inr e
 pub past : {A : Type 0} (b : Bool) (x y : A) {z : A} → (x ≡ z → ⊥) → cond b x y ≡ z → (b ≡ false) × (y ≡ z)
 past true x y other e = absurd (other e)
 past false x y other e = (refl, e)
+
+-- What holds of each branch, of the first where the test passed, holds of the one that the test picks.
+pub of-cond : {A : Type 0} (P : A → Type 0) (b : Bool) (x y : A) → (b ≡ true → P x) → P y → P (cond b x y)
+of-cond P true x y p q = p refl
+of-cond P false x y p q = q

@@ -1,5 +1,5 @@
 -- A unit's own data takes no more bytes than there are.
-use mathlib.Core.Path.{_≡_, refl, subst}
+use mathlib.Core.Path.{_≡_, subst}
 use mathlib.Core.Bool.{Bool, false, true, cond, _&&_}
 use mathlib.Core.List.{List, [], _∷_}
 use Prim.Native.Nat.{ℕ, _≤_, _+_}
@@ -11,26 +11,22 @@ use Rattle.cdf_format.specs.Grammar.{Rule, blank, name, nameValue, value
 use Rattle.cdf_format.specs.Data.{nameFront, spelled, nameOf, valueFrom, valueAfter, dataBy, ownData}
 use Rattle.cdf_format.specs.declared.Own.{Own}
 use Rattle.cdf_format.specs.declared.Own.the-variants.{Taken, Broken}
-use Rattle.cdf_format.proofs.Bools.{both}
+use Rattle.cdf_format.proofs.Bools.{both, of-cond}
 
 abbrev Fits : ℕ → Own → Type 0
 Fits n (Taken k) = k ≤ n
 Fits n (Broken k) = record {}
 
-fits-if : (b : Bool) (x y : Own) (n : ℕ) → (b ≡ true → Fits n x) → Fits n y → Fits n (cond b x y)
-fits-if true x y n f g = f refl
-fits-if false x y n f g = g
-
 spelled-fits : (count front n : ℕ) → 1 + count ≤ n → Fits n (spelled count front)
 unfolding spelled
-spelled-fits count front n h = fits-if (eqb front count) (Taken (1 + count)) (Broken (1 + front)) n (λ e. h) (record {})
+spelled-fits count front n h = of-cond (Fits n) (eqb front count) (Taken (1 + count)) (Broken (1 + front)) (λ e. h) (record {})
 
 -- a name takes its count and so many bytes more
 name-fits : (s : List ℕ) (n : ℕ) → ((count : ℕ) → count ≤ 32 → 1 + count ≤ length s → 1 + count ≤ n) → Fits n (nameOf s)
 unfolding nameOf
 name-fits [] n few = record {}
 name-fits (count ∷ s) n few =
-    fits-if (leb 1 count && (leb count 32 && leb count (length s))) _ (Broken 0) n
+    of-cond (Fits n) (leb 1 count && (leb count 32 && leb count (length s))) _ (Broken 0)
     (λ e. let h = both (leb count 32) (leb count (length s)) (both (leb 1 count) _ e .1) in
     let within = leb-true count (length s) (h .1) in
     spelled-fits count (nameFront (take count s)) n (few count (leb-true count 32 (h .0)) (omega arith)))
@@ -41,7 +37,7 @@ name-short s k e = subst (Fits 33) e (name-fits s 33 (λ count low within. omega
 
 value-fits : (k : ℕ) (s : List ℕ) → k ≤ length s → Fits (length s) (valueFrom k s)
 unfolding valueFrom
-value-fits k s h = fits-if (leb (length s) (k + 4096)) (Taken k) (Broken (k + 4096)) (length s) (λ e. h) (record {})
+value-fits k s h = of-cond (Fits (length s)) (leb (length s) (k + 4096)) (Taken k) (Broken (k + 4096)) (λ e. h) (record {})
 
 after-fits : (s : List ℕ) (x : Own) → Fits (length s) x → Fits (length s) (valueAfter s x)
 unfolding valueAfter
@@ -59,7 +55,7 @@ data-fits name others s = name-fits s (length s) (λ count low within. within)
 data-fits nameValue others s = after-fits s (nameOf s) (name-fits s (length s) (λ count low within. within))
 data-fits value others s = value-fits 0 s (omega arith)
 data-fits (numbers n) others s =
-    fits-if (cond others (leb n (length s)) (eqb (length s) n)) (Taken n) (Broken 0) (length s)
+    of-cond (Fits (length s)) (cond others (leb n (length s)) (eqb (length s) n)) (Taken n) (Broken 0)
     (enough n (length s) others) (record {})
 
 pub taken-fits : (id : ℕ) (s : List ℕ) (k : ℕ) → ownData id s ≡ Taken k → k ≤ length s

@@ -1,6 +1,6 @@
 -- What the rows come to, by id, as tables to compare with 01's: what a unit can have had, and which kinds it admits.
 use Prim.Native.Nat.{ℕ, zero, suc}
-use mathlib.Core.Bool.{Bool, true, false, cond}
+use mathlib.Core.Bool.{Bool, cond}
 use mathlib.Core.List.{List, [], _∷_, _++_, map}
 use Rattle.cdf_format.specs.Grammar.{possible, admitsKind}
 

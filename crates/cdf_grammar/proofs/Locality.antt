@@ -1,5 +1,5 @@
 -- Judging and stepping in a part of the bytes is judging and stepping in the whole, with all offsets moved by its start.
-use mathlib.Core.Path.{_≡_, refl, sym, ap}
+use mathlib.Core.Path.{_≡_, refl, ap}
 use mathlib.Core.Bool.{Bool, true, false, cond}
 use mathlib.Core.List.{List, [], _∷_, map}
 use mathlib.Mathlib.Data.List.Basic.{map-reverseAux}
@@ -9,7 +9,7 @@ use native.Mathlib.Nat.{add-assoc}
 use borrow.Author.Tests.{eqb-true, eqb-false, eq-eqb, ne-eqb}
 use lib.Dec.{eqb}
 use lib.ListN.{length, take, drop, length-take}
-use lib.Seq.{take-length, take-take}
+use lib.Seq.{take-take}
 use Rattle.cdf_format.specs.Layout.{Layout}
 use Rattle.cdf_format.specs.Grammar.{opens, complete}
 use Rattle.cdf_format.specs.Judge.{judgeOf}
@@ -143,11 +143,3 @@ module _ (l : Layout) (S : List ℕ) (base n : ℕ) (t : List ℕ) (p : Part S b
       let x = entered 0 (λ next. []) (judgeOf l false had t) in
       let first = rw here at (unit-local 0 false had t (λ next. []) (omega arith) (λ next. record {})) in
       rw (← follows l t false had, first .same) (steps-local (suc (length t)) x [] (first .ends))
-
--- The same where all that follows an offset is left.
-pub rest-local : (l : Layout) (S : List ℕ) (base had : ℕ) →
-    stepsFrom (suc (length (drop base S))) l S (entered base (λ next. []) (judgeOf l false had (drop base S))) []
-    ≡ movedListing base (listingIn l had (drop base S))
-rest-local l S base had =
-    let t = drop base S in
-    listing-local l S base (length t) t (record { long = refl; is = sym (take-length t) }) had

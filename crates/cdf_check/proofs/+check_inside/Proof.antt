@@ -15,7 +15,7 @@ use Rattle.cdf_format.proofs.grammar.is_complete.Reads as is-complete-reads
 use Rattle.cdf_format.proofs.grammar.opens_others.Reads as opens-others-reads
 use Rattle.cdf_format.proofs.judge.judge.Reads as judge-reads
 use Rattle.cdf_format.proofs.Parts.{rest, minus-plus}
-use Rattle.cdf_check.proofs.Offsets.{offset-lies}
+use Rattle.cdf_format.proofs.Faults.{offset-lies}
 use Rattle.cdf_check.proofs.Walked.{Going, begun, finished, stopped, Lies, lies, stopped-inside, on}
 use Rattle.cdf_check.proofs.check_inside.Reads as reads
 use Rattle.cdf_check.proofs.check_inside.Kinds as kinds
@@ -100,7 +100,7 @@ module _ (t : ℕ) where
 
   add-place-2 : lts.Need-add-place-2 Calls At reads.Post Inv-loop μ-loop
   add-place-2 c =
-      let few = offset-lies _ _ _ _ _ _ (judged (c .before .before .before) (c .before .number .given .1)) in
+      let few = offset-lies _ _ _ _ (judged (c .before .before .before) (c .before .number .given .1)) in
       omega (arith, simp length-drop at few)
 
   returns : lts.Need-returns Calls At reads.Post Inv-loop μ-loop
