@@ -66,7 +66,7 @@ def own_end(s, id, at, end):
 
 
 def check(s):
-    """0 and the number of units, or the number and the offset of the first broken rule."""
+    """0 with the count of units, or the first broken rule: its number and offset."""
     opened = []  # the open units, outermost first
     at = units = 0
     while True:

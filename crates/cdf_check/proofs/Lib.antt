@@ -1,2 +1,3 @@
-pub mod Same
 pub mod Walked
+pub mod Same
+pub mod Exact

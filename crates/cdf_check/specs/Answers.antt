@@ -1,8 +1,8 @@
 -- The answers that the check gives, as the cases of `Checked` and as document 01 numbers them.
 use Prim.Native.Nat.{ℕ}
 use lib.ListN.{length}
-use Rattle.cdf_format.specs.Units.{End, unfinished, ended, fault, Listing}
-use Rattle.cdf_format.specs.Check.{Answer}
+use Rattle.cdf_units.specs.Units.{End, unfinished, ended, fault, Listing}
+use Rattle.cdf_units.specs.Check.{Answer}
 use Rattle.cdf_check.specs.declared.Checked.{Checked}
 use Rattle.cdf_check.specs.declared.Checked.the-variants.{Accepted, Refused}
 
@@ -17,7 +17,7 @@ unfoldable pub checkedOf : Listing → Checked
 unfolding checkedBy
 checkedOf r = checkedBy (length (r .units)) (r .end)
 
--- The number and the value that 01 gives a case: 0 and the number of units, or the fault's number and offset.
+-- The number and the value that 01 gives a case: 0 with the count, or the fault's number and offset.
 unfoldable pub paperOf : Checked → Answer
 paperOf (Accepted count) = record { number = 0; value = count }
 paperOf (Refused n at) = record { number = n; value = at }

@@ -1,19 +1,25 @@
 // The recursive check of a stream, and of a unit one level down.
 ghost use mathlib.Core.Path.{_≡_};
+ghost use mathlib.Core.Bool.{Bool};
+ghost use mathlib.Core.Logic.{_↔_};
 ghost use Prim.Native.Nat.{ℕ, _+_, _≤_, _<_};
 ghost use lib.ListN.{length};
-ghost use Rattle.cdf_format.specs.Layout.{layoutOf};
-ghost use Rattle.cdf_format.specs.Units.{listing, listingIn};
-ghost use Rattle.cdf_format.specs.Check.{checkOf, checkIn};
-ghost use Rattle.cdf_format.specs.declared.Edition.the-variants.{First};
+ghost use Rattle.cdf_table.specs.Heights.{heightIn};
+ghost use Rattle.cdf_prefix.specs.Layout.{layoutOf};
+ghost use Rattle.cdf_prefix.specs.declared.Edition.the-variants.{First};
+ghost use Rattle.cdf_judge.specs.Judge.{judgeOf};
+ghost use Rattle.cdf_units.specs.Units.{listing, listingIn};
+ghost use Rattle.cdf_units.specs.Check.{checkOf, checkIn};
+ghost use Rattle.cdf_grammar.specs.Trees.{Forest, units};
+ghost use Rattle.cdf_grammar.specs.Encoding.{Stream};
 ghost use Rattle.cdf_check.specs.Answers.{checkedOf, paperOf};
-ghost use Rattle.cdf_format.specs.Ranks.{rank};
-ghost use Rattle.cdf_check.specs.Walk.{inside, front};
-use cdf_format::Edition;
-use cdf_format::Judged;
-use cdf_format::grammar::is_complete;
-use cdf_format::grammar::opens_others;
-use cdf_format::judge::judge;
+ghost use Rattle.cdf_check.specs.Walk.{insideOf, front};
+use cdf_judge::Judged;
+use cdf_judge::judge;
+use cdf_judge::judge_root;
+use cdf_prefix::Edition;
+use cdf_table::first_state;
+use cdf_table::is_complete;
 
 // What the check found: the number of units of a right stream, or the first fault's number and offset.
 pub enum Checked {
@@ -21,25 +27,26 @@ pub enum Checked {
     Refused { number: usize, offset: usize },
 }
 
-// Checks what the unit s of this id holds, from body on. count units come before that, and base bytes before s.
+// Checks what the unit s holds, from body on; in `first` it has had nothing. count units come before that, and base bytes
+// before s.
 fn check_inside(
     edition: Edition,
     levels: usize,
     s: &[u8],
-    id: usize,
+    first: usize,
     base: usize,
     body: usize,
     count: usize,
 ) -> Checked
-    requires { ⌜ (rank id < levels) × (base + length (now s) < 9223372036854775808) × (body ≤ length (now s)) × (count ≤ base + body) ⌝ }
-    ensures is { λ r. ⌜ r ≡ inside (layoutOf edition) levels (now (s .entry)) id base body count ⌝ }
+    requires { ⌜ (heightIn first < levels) × (base + length (now s) < 9223372036854775808) × (body ≤ length (now s)) × (count ≤ base + body) ⌝ }
+    ensures is { λ r. ⌜ r ≡ insideOf (layoutOf edition) levels (now (s .entry)) first base body count ⌝ }
     ensures few { λ r. ⌜ ((n : ℕ) → r ≡ Checked.Accepted n → n ≤ base + length (now (s .entry))) ⌝ }
 {
     let mut at = body;
-    let mut had = id;
+    let mut state = first;
     let mut n = count;
     while at < s.len() {
-        match judge(edition, false, had, &s[at..]) {
+        match judge(edition, state, &s[at..]) {
             Judged::Fault { number, offset } => {
                 let place = base + at + offset;
                 return Checked::Refused {
@@ -52,15 +59,16 @@ fn check_inside(
                 action: _,
                 own,
                 length,
-                had: then,
+                state: next,
             } => {
                 let e = at + length;
-                if opens_others(child) {
+                let fresh = first_state(child);
+                if fresh != 0 {
                     match check_inside(
                         edition,
                         levels - 1,
                         &s[at..e],
-                        child,
+                        fresh,
                         base + at,
                         own,
                         n + 1,
@@ -75,12 +83,12 @@ fn check_inside(
                 } else {
                     n = n + 1;
                 }
-                had = then;
+                state = next;
                 at = e;
             }
         }
     }
-    if is_complete(had) {
+    if is_complete(state) {
         Checked::Accepted(n)
     } else {
         Checked::Refused {
@@ -90,39 +98,51 @@ fn check_inside(
     }
 }
 
-// Checks the unit at the front of s: a stream's root, or a unit nested in one that has had `had`.
-fn check_front(edition: Edition, root: bool, had: usize, s: &[u8]) -> Checked
-    ensures { λ r. ⌜ r ≡ front (layoutOf edition) root had (now (s .entry)) ⌝ }
+// Checks the unit at the front of s, which was judged so: as a stream's root, or as one nested in a unit in some state.
+fn check_front(edition: Edition, judged: Judged, s: &[u8]) -> Checked
+    requires { ⌜ ((root : Bool) × (state : ℕ) × (judgeOf (layoutOf edition) root state (now s) ≡ judged)) ⌝ }
+    ensures { λ r. ⌜ r ≡ front (layoutOf edition) (now (s .entry)) judged ⌝ }
 {
-    match judge(edition, root, had, s) {
+    match judged {
         Judged::Fault { number, offset } => Checked::Refused { number, offset },
         Judged::Found {
             id,
             action: _,
             own,
             length,
-            had: _,
+            state: _,
         } => {
-            if opens_others(id) {
-                return check_inside(edition, 5, &s[..length], id, 0, own, 1);
+            let fresh = first_state(id);
+            if fresh != 0 {
+                return check_inside(edition, 5, &s[..length], fresh, 0, own, 1);
             }
             Checked::Accepted(1)
         }
     }
 }
 
+// Checks a whole stream of this edition.
+pub fn check_as(edition: Edition, s: &[u8]) -> Checked
+    ensures paper { λ r. ⌜ paperOf r ≡ checkOf (layoutOf edition) (now (s .entry)) ⌝ }
+    ensures is { λ r. ⌜ r ≡ checkedOf (listing (layoutOf edition) (now (s .entry))) ⌝ }
+    ensures exact { λ r. ⌜ ((n : ℕ) → (r ≡ Checked.Accepted n) ↔ ((t : Forest) × Stream (layoutOf edition) (now (s .entry)) t × (units t ≡ n))) ⌝ }
+{
+    check_front(edition, judge_root(edition, s), s)
+}
+
 // Checks a whole stream.
 pub fn check(s: &[u8]) -> Checked
     ensures paper { λ r. ⌜ paperOf r ≡ checkOf (layoutOf First) (now (s .entry)) ⌝ }
     ensures is { λ r. ⌜ r ≡ checkedOf (listing (layoutOf First) (now (s .entry))) ⌝ }
+    ensures exact { λ r. ⌜ ((n : ℕ) → (r ≡ Checked.Accepted n) ↔ ((t : Forest) × Stream (layoutOf First) (now (s .entry)) t × (units t ≡ n))) ⌝ }
 {
-    check_front(Edition::First, true, 0, s)
+    check_as(Edition::First, s)
 }
 
-// Checks the unit at the front of s, which a unit that has had `had` has left.
-pub fn check_nested(had: usize, s: &[u8]) -> Checked
-    ensures paper { λ r. ⌜ paperOf r ≡ checkIn (layoutOf First) had (now (s .entry)) ⌝ }
-    ensures is { λ r. ⌜ r ≡ checkedOf (listingIn (layoutOf First) had (now (s .entry))) ⌝ }
+// Checks the unit at the front of s, which is what a unit in this state has left.
+pub fn check_nested(edition: Edition, state: usize, s: &[u8]) -> Checked
+    ensures paper { λ r. ⌜ paperOf r ≡ checkIn (layoutOf edition) state (now (s .entry)) ⌝ }
+    ensures is { λ r. ⌜ r ≡ checkedOf (listingIn (layoutOf edition) state (now (s .entry))) ⌝ }
 {
-    check_front(Edition::First, false, had, s)
+    check_front(edition, judge(edition, state, s), s)
 }

@@ -7,24 +7,25 @@ use native.Mathlib.Omega.{arith}
 use native.Mathlib.Decide.{decLt}
 use lib.ListN.{length, take, drop, length-take, take-append-drop}
 use lib.Seq.{take-take, take-length, drop-drop}
-use Rattle.cdf_format.specs.Layout.{Layout, prefixOf}
-use Rattle.cdf_format.specs.Grammar.{opens, nothing, admit, admits, complete, rootKind, skipped}
-use Rattle.cdf_format.specs.Judge.{judgeOf}
-use Rattle.cdf_format.specs.Units.{after, ended, Listing, listing}
-use Rattle.cdf_format.specs.Stack.{opened, withHad, step, stepsFrom}
-use Rattle.cdf_format.specs.declared.Unit.{Unit}
-use Rattle.cdf_format.specs.declared.Open.{Open}
-use Rattle.cdf_format.specs.declared.Judged.{Judged}
-use Rattle.cdf_format.specs.declared.Judged.the-variants.{Fault, Found}
-use Rattle.cdf_format.proofs.Placed.{Placed, placed}
-use Rattle.cdf_format.proofs.Entering.{unitOf}
+use Rattle.cdf_prefix.specs.Layout.{Layout, prefixOf}
+use Rattle.cdf_table.specs.States.{opens, nothing, admit, admits, complete, rootKind}
+use Rattle.cdf_judge.specs.Judge.{judgeOf}
+use Rattle.cdf_units.specs.Units.{after, ended, Listing, listing}
+use Rattle.cdf_units.specs.Stack.{opened, withState, step, stepsFrom}
+use Rattle.cdf_units.specs.declared.Unit.{Unit}
+use Rattle.cdf_units.specs.declared.Open.{Open}
+use Rattle.cdf_judge.specs.declared.Judged.{Judged}
+use Rattle.cdf_judge.specs.declared.Judged.the-variants.{Fault, Found}
+use Rattle.cdf_judge.proofs.Placed.{Placed, placed}
+use Rattle.cdf_units.proofs.Entering.{unitOf}
 use Rattle.cdf_grammar.specs.Trees.{Forest, none, tree, ids}
 use Rattle.cdf_grammar.specs.Encoding.{encode, Bytes}
 use Rattle.cdf_grammar.proofs.Fits.{through, Fits}
-use Rattle.cdf_format.proofs.Parts.{drop-take}
+use Rattle.cdf_table.proofs.Parts.{drop-take}
 use Rattle.cdf_grammar.proofs.Parts.{part-left, part-bytes}
 use Rattle.cdf_grammar.proofs.Written.{textOf, UnitIs, unit-written}
-use Rattle.cdf_grammar.proofs.Stepping.{fresh, admits-nested, step-inside, step-closes, steps-on, listing-steps}
+use Rattle.cdf_table.proofs.Rows.{admits-nested}
+use Rattle.cdf_grammar.proofs.Stepping.{fresh, step-inside, step-closes, steps-on, listing-steps}
 use Rattle.cdf_grammar.proofs.Stepping.{faults, enters, opened-parent, refused-never, spent-never}
 use Rattle.cdf_grammar.proofs.Nesting.{leaves, nest-unit}
 use Rattle.cdf_grammar.proofs.Built.{encode-none, encode-tree}
@@ -39,7 +40,7 @@ module _ (l : Layout) (S : List ℕ) where
     trees : Forest
     fits : Fits l trees
     bytes : take (o .end - pos) (drop pos S) ≡ encode l trees
-    full : complete (through (o .had) (ids trees)) ≡ true
+    full : complete (through (o .state) (ids trees)) ≡ true
 
   -- Steps to the end, with less fuel than this.
   abbrev Ends : ℕ → Type 0
@@ -50,18 +51,18 @@ module _ (l : Layout) (S : List ℕ) where
   closing-ends : (F : ℕ) (o : Open) (os : List Open) (pos : ℕ) (us : List Unit) → o .end ≡ pos →
       stepsFrom F l S (step l S (o ∷ os) pos) us .end ≡ ended → Over o pos
   unfolding through ids
-  closing-ends F o os pos us at q = go (complete (o .had)) refl
+  closing-ends F o os pos us at q = go (complete (o .state)) refl
     where
-      go : (x : Bool) → complete (o .had) ≡ x → Over o pos
+      go : (x : Bool) → complete (o .state) ≡ x → Over o pos
       go true e =
           let none-left : o .end - pos ≡ 0 = omega arith in
           record { trees = none; fits = record {}; bytes = rw (none-left, encode-none); full = e }
       go false e = absurd (refused-never l S F 10 (o .start) us (rw (step-closes l S o os pos at, e) at q))
 
   -- A unit, and then the trees after it.
-  joined : (o : Open) (pos id len next : ℕ) → pos + len ≤ o .end → admit (o .had) id ≡ next →
-      UnitIs l id (take len (take (o .end - pos) (drop pos S))) → Over (withHad o next) (pos + len) → Over o pos
-  unfolding through ids withHad
+  joined : (o : Open) (pos id len next : ℕ) → pos + len ≤ o .end → admit (o .state) id ≡ next →
+      UnitIs l id (take len (take (o .end - pos) (drop pos S))) → Over (withState o next) (pos + len) → Over o pos
+  unfolding through ids withState
   joined o pos id len next room may v w =
       let s = take (o .end - pos) (drop pos S) in
       let left : o .end - pos - len ≡ o .end - (pos + len) = omega arith in
@@ -70,7 +71,7 @@ module _ (l : Layout) (S : List ℕ) where
         trees = tree id (v .action) (v .text) (v .inner) (w .trees);
         fits = (v .passes, v .fits, w .fits);
         bytes = rw (encode-tree, ← v .bytes, ← rest, take-append-drop);
-        full = ap (λ had. complete (through had (ids (w .trees)))) may ∙ w .full;
+        full = ap (λ state. complete (through state (ids (w .trees)))) may ∙ w .full;
       }
 
 -- The bytes are one tree of a root's kind that fits, within the limit.
@@ -78,11 +79,11 @@ abbrev pub Encoded : Layout → List ℕ → Type 0
 Encoded l s =
     (t : Forest) × (id : ℕ) × (ids t ≡ id ∷ []) × (rootKind id ≡ true) × Fits l t × (encode l t ≡ s) × (length s ≤ l .limit)
 
-root-kind : (had id : ℕ) → (admits true had id ≡ 0 → ⊥) → rootKind id ≡ true
+root-kind : (state id : ℕ) → (admits true state id ≡ 0 → ⊥) → rootKind id ≡ true
 unfolding admits
-root-kind had id some = go (rootKind id) some
+root-kind state id some = go (rootKind id) some
   where
-    go : (b : Bool) → (cond b skipped 0 ≡ 0 → ⊥) → b ≡ true
+    go : (b : Bool) → (cond b (nothing id) 0 ≡ 0 → ⊥) → b ≡ true
     go true some = refl
     go false some = absurd (some refl)
 
@@ -99,7 +100,7 @@ root-encoded l s id root short v = (
 )
 
 module _ (l : Layout) (S : List ℕ) (b : Bytes S) where
-  module _ {root : Bool} {had : ℕ} {s : List ℕ} {id action own len next : ℕ} (p : Placed l root had s id action own len next)
+  module _ {root : Bool} {state : ℕ} {s : List ℕ} {id action own len next : ℕ} (p : Placed l root state s id action own len next)
       (pos n : ℕ) (part : s ≡ take n (drop pos S)) (room : pos + n ≤ length S) where
     few : len ≤ n
     few = omega (arith, ap length part, length-take n (drop pos S))
@@ -152,25 +153,25 @@ module _ (l : Layout) (S : List ℕ) (b : Bytes S) where
   -- The unit at a position is left at its end, and the steps go on in the one around it.
   inside-ends : (N : ℕ) → Ends l S N → (F : ℕ) → F < N → (o : Open) (os : List Open) (pos : ℕ) (us : List Unit) → pos < o .end →
       o .end ≤ length S → stepsFrom (suc F) l S (step l S (o ∷ os) pos) us .end ≡ ended → Over l S o pos
-  unfolding withHad
-  inside-ends N ends F h o os pos us low high q = go (judgeOf l false (o .had) s) refl
+  unfolding withState
+  inside-ends N ends F h o os pos us low high q = go (judgeOf l false (o .state) s) refl
     where
       s : List ℕ
       s = take (o .end - pos) (drop pos S)
 
-      go : (j : Judged) → judgeOf l false (o .had) s ≡ j → Over l S o pos
+      go : (j : Judged) → judgeOf l false (o .state) s ≡ j → Over l S o pos
       go (Fault n k) e =
           absurd (refused-never l S (suc F) n (pos + k) us (rw (step-inside l S o os pos low, e, faults) at q))
       go (Found id action own len next) e =
-          let p = placed l false (o .had) s e in
+          let p = placed l false (o .state) s e in
           let u = unitOf pos id action own len in
-          let around = withHad o next ∷ os in
+          let around = withState o next ∷ os in
           let inside : stepsAfter l S u around F (u ∷ us) .end ≡ ended = rw (step-inside l S o os pos low, e, enters, steps-on) at q in
           let room : pos + len ≤ o .end = omega (arith, p .high, length-take (o .end - pos) (drop pos S)) in
           let v = entered-ends p pos (o .end - pos) refl (omega arith) N ends F h around (u ∷ us) inside in
           let g = leaves (nest-unit l S F u around (u ∷ us) (omega arith)) inside in
-          joined l S o pos id len next room (sym (admits-nested (o .had) id) ∙ p .may) v
-          (ends (g .fuel) (omega (arith, g .less)) (withHad o next) os (pos + len) _ room high (rw (g .on) at inside))
+          joined l S o pos id len next room (sym (admits-nested (o .state) id) ∙ p .may) v
+          (ends (g .fuel) (omega (arith, g .less)) (withState o next) os (pos + len) _ room high (rw (g .on) at inside))
 
   all-ends : (N : ℕ) → Ends l S N
   all-ends zero F h o os pos us low high q = absurd (omega arith)

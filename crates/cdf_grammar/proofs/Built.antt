@@ -6,12 +6,12 @@ use Prim.Native.Nat.{ℕ, _+_, _-_, _^_, _≤_, _<_}
 use native.Mathlib.Omega.{arith}
 use lib.ListN.{length, length-append}
 use lib.Seq.{take-at, drop-at}
-use Rattle.cdf_format.specs.Layout.{Layout, prefixOf}
-use Rattle.cdf_format.specs.Grammar.{admits}
-use Rattle.cdf_format.specs.Judge.{judgeOf}
-use Rattle.cdf_format.specs.declared.Judged.the-variants.{Found}
-use Rattle.cdf_format.proofs.Placed.{judged}
-use Rattle.cdf_format.proofs.Taken.{taken-fits}
+use Rattle.cdf_prefix.specs.Layout.{Layout, prefixOf}
+use Rattle.cdf_table.specs.States.{admits}
+use Rattle.cdf_judge.specs.Judge.{judgeOf}
+use Rattle.cdf_judge.specs.declared.Judged.the-variants.{Found}
+use Rattle.cdf_judge.proofs.Placed.{judged}
+use Rattle.cdf_data.proofs.Taken.{taken-fits}
 use Rattle.cdf_grammar.specs.Trees.{Forest, none, tree}
 use Rattle.cdf_grammar.specs.Encoding.{prefixBytes, unitBytes, encode}
 use Rattle.cdf_grammar.proofs.Fits.{ownOf, Passes}
@@ -43,11 +43,11 @@ length-unit l id action text inner = simp (unit-is, length-append, length-prefix
 
 -- As the root (`true`) it has to be all the bytes, within the limit.
 pub unit-judged : {l : Layout} {id action : ℕ} {text : List ℕ} {inner : Forest} → Passes l id action text inner →
-    sizeOf l text inner < 256 ^ l .lengthBytes → (root : Bool) (had next : ℕ) → admits root had id ≡ next → (next ≡ 0 → ⊥) →
+    sizeOf l text inner < 256 ^ l .lengthBytes → (root : Bool) (state next : ℕ) → admits root state id ≡ next → (next ≡ 0 → ⊥) →
     (more : List ℕ) → (root ≡ true → (more ≡ []) × (sizeOf l text inner ≤ l .limit)) →
-    judgeOf l root had (unitBytes l id action text (encode l inner) ++ more)
+    judgeOf l root state (unitBytes l id action text (encode l inner) ++ more)
     ≡ Found id action (prefixOf l + ownOf id text) (sizeOf l text inner) next
-unit-judged {l} {id} {action} {text} {inner} p small root had next may some more alone =
+unit-judged {l} {id} {action} {text} {inner} p small root state next may some more alone =
     let body = text ++ encode l inner in
     let size = sizeOf l text inner in
     let front = prefixBytes l size action id in
@@ -60,7 +60,7 @@ unit-judged {l} {id} {action} {text} {inner} p small root had next may some more
     let cut : size - prefixOf l ≡ length body = omega arith in
     let own : prefixOf l + ownOf id text - prefixOf l ≡ ownOf id text = omega arith in
     rw (unit-is, same)
-    (judged l root had s (record {
+    (judged l root state s (record {
       mark = mark-read l size action id (body ++ more);
       isId = sym (id-read l size action id (body ++ more));
       isAction = sym (action-read l size action id (body ++ more));

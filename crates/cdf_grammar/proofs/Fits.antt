@@ -5,18 +5,19 @@ use mathlib.Core.Bool.{true, false}
 use mathlib.Core.List.{List, [], _∷_, _++_}
 use native.Mathlib.Omega.{arith}
 use lib.ListN.{length}
-use Rattle.cdf_format.specs.Layout.{Layout}
-use Rattle.cdf_format.specs.Grammar.{known, actionAllowed, opens, nothing, admit, complete}
-use Rattle.cdf_format.specs.Data.{ownData}
-use Rattle.cdf_format.specs.declared.Own.the-variants.{Taken}
+use Rattle.cdf_prefix.specs.Layout.{Layout}
+use Rattle.cdf_table.specs.Ids.{known, actionAllowed}
+use Rattle.cdf_table.specs.States.{opens, nothing, admit, complete}
+use Rattle.cdf_data.specs.Data.{ownData}
+use Rattle.cdf_data.specs.declared.Own.the-variants.{Taken}
 use Rattle.cdf_grammar.specs.Trees.{Forest, none, tree, ids}
 use Rattle.cdf_grammar.specs.Published.{productionOf}
 use Rattle.cdf_grammar.specs.Encoding.{encode, ownLength}
 
--- What a unit that has had `had` has had after children of these ids; 0 once one is not admitted.
+-- The state of a unit in `state` after children of these ids; 0 once one is not admitted.
 unfoldable pub through : ℕ → List ℕ → ℕ
-through had [] = had
-through had (id ∷ cs) = through (admit had id) cs
+through state [] = state
+through state (id ∷ cs) = through (admit state id) cs
 
 -- Once a child is not admitted, none is.
 pub through-none : (cs : List ℕ) → through 0 cs ≡ 0
@@ -24,10 +25,10 @@ unfolding through admit
 through-none [] = refl
 through-none (c ∷ cs) = through-none cs
 
--- A complete unit has had something that the rows know.
-pub complete-some : (had : ℕ) → complete had ≡ true → had ≡ 0 → ⊥
+-- A complete unit is in a state.
+pub complete-some : (state : ℕ) → complete state ≡ true → state ≡ 0 → ⊥
 unfolding complete
-complete-some had e z = let f : false ≡ true = rw z at e in let n : _≡_ {A = ℕ} 0 1 = cc in omega arith
+complete-some state e z = let f : false ≡ true = rw z at e in let n : _≡_ {A = ℕ} 0 1 = cc in omega arith
 
 -- How many bytes of a unit's own data are its name or fixed numbers.
 abbrev pub ownOf : ℕ → List ℕ → ℕ

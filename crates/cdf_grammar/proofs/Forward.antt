@@ -6,26 +6,23 @@ use Prim.Native.Nat.{ℕ, suc, _+_, _-_, _^_, _≤_, _<_}
 use native.Mathlib.Omega.{arith}
 use lib.ListN.{length, take, drop, length-append, length-drop}
 use lib.Seq.{take-append-add, drop-at, drop-drop}
-use Rattle.cdf_format.specs.Layout.{Layout, prefixOf}
-use Rattle.cdf_format.specs.Grammar.{opens, nothing, admit, admits, rootKind, skipped}
-use Rattle.cdf_format.specs.Judge.{judgeOf}
-use Rattle.cdf_format.specs.Units.{after, listing, ended}
-use Rattle.cdf_format.specs.Stack.{opened, entered, withHad, step, stepsFrom}
-use Rattle.cdf_format.specs.declared.Unit.{Unit}
-use Rattle.cdf_format.specs.declared.Open.{Open}
-use Rattle.cdf_format.specs.declared.Judged.the-variants.{Found}
-use Rattle.cdf_format.proofs.Entering.{unitOf}
+use Rattle.cdf_prefix.specs.Layout.{Layout, prefixOf}
+use Rattle.cdf_table.specs.States.{opens, nothing, admit, rootKind}
+use Rattle.cdf_judge.specs.Judge.{judgeOf}
+use Rattle.cdf_units.specs.Units.{after, listing, ended}
+use Rattle.cdf_units.specs.Stack.{opened, entered, withState, step, stepsFrom}
+use Rattle.cdf_units.specs.declared.Unit.{Unit}
+use Rattle.cdf_units.specs.declared.Open.{Open}
+use Rattle.cdf_judge.specs.declared.Judged.the-variants.{Found}
+use Rattle.cdf_units.proofs.Entering.{unitOf}
 use Rattle.cdf_grammar.specs.Trees.{Forest, none, tree, ids, units}
 use Rattle.cdf_grammar.specs.Encoding.{unitBytes, encode, list}
 use Rattle.cdf_grammar.proofs.Fits.{through, through-none, complete-some, ownOf, Passes, Fits}
 use Rattle.cdf_grammar.proofs.Prefixes.{length-prefix}
 use Rattle.cdf_grammar.proofs.Built.{encode-none, encode-tree, sizeOf, unit-is, length-unit, unit-judged}
-use Rattle.cdf_grammar.proofs.Stepping.{fresh, admits-nested, step-inside, step-closes, steps-end, steps-on}
+use Rattle.cdf_table.proofs.Rows.{admits-nested, admits-root, root-opens}
+use Rattle.cdf_grammar.proofs.Stepping.{fresh, step-inside, step-closes, steps-end, steps-on}
 use Rattle.cdf_grammar.proofs.Stepping.{listing-steps, enters, opened-parent, opened-leaf}
-
-root-admits : (had id : ℕ) → rootKind id ≡ true → admits true had id ≡ skipped
-unfolding admits
-root-admits had id e = rw e
 
 -- Where the units nested in a unit with this text stand.
 abbrev innerAt : Layout → ℕ → List ℕ → ℕ
@@ -63,9 +60,9 @@ module _ (l : Layout) (S : List ℕ) where
   abbrev Listed : Forest → Type 0
   Listed f =
       (pos : ℕ) (more : List ℕ) (o : Open) (os : List Open) (F : ℕ) (us : List Unit) →
-      drop pos S ≡ encode l f ++ more → pos + length (encode l f) ≤ o .end → (through (o .had) (ids f) ≡ 0 → ⊥) →
+      drop pos S ≡ encode l f ++ more → pos + length (encode l f) ≤ o .end → (through (o .state) (ids f) ≡ 0 → ⊥) →
       stepsFrom (units f + F) l S (step l S (o ∷ os) pos) us
-      ≡ stepsFrom F l S (step l S (withHad o (through (o .had) (ids f)) ∷ os) (pos + length (encode l f)))
+      ≡ stepsFrom F l S (step l S (withState o (through (o .state) (ids f)) ∷ os) (pos + length (encode l f)))
       (reverseAux (list l pos f) us)
 
   module _ (pos id action : ℕ) (text : List ℕ) (inner : Forest) where
@@ -97,19 +94,19 @@ module _ (l : Layout) (S : List ℕ) where
         over-opened : (b : Bool) → opens id ≡ b → (os : List Open) (F : ℕ) (us : List Unit) →
             stepsFrom (units inner + F) l S (step l S (opened u os) (after u)) us
             ≡ stepsFrom F l S (step l S os (u .end)) (reverseAux (list l (innerAt l pos text) inner) us)
-        unfolding units list encode withHad
+        unfolding units list encode withState
         over-opened true e os F us =
             let w = opened-parent u os e in
-            let had = through (nothing id) (ids inner) in
+            let state = through (nothing id) (ids inner) in
             let full = p .full e in
             let end : innerAt l pos text + length (encode l inner) ≡ u .end = omega arith in
             rw (
               w .0,
               w .1,
               p .exact e,
-              over-inner (innerAt l pos text) more (fresh u) os F us inner-here (omega arith) (complete-some had full),
+              over-inner (innerAt l pos text) more (fresh u) os F us inner-here (omega arith) (complete-some state full),
               end,
-              step-closes l S (withHad (fresh u) had) os (u .end) refl,
+              step-closes l S (withState (fresh u) state) os (u .end) refl,
               full,
             )
         over-opened false e os F us =
@@ -125,7 +122,7 @@ module _ (l : Layout) (S : List ℕ) where
             rw (enters, unit-here l pos id action text inner, steps-on) (over-opened (opens id) refl (around next) F (u ∷ us))
 
   over-none : Listed none
-  unfolding units ids through list withHad
+  unfolding units ids through list withState
   over-none pos more o os F us here room some =
       let fuel : 0 + F ≡ F = omega arith in
       let at : pos + 0 ≡ pos = omega arith in
@@ -134,9 +131,9 @@ module _ (l : Layout) (S : List ℕ) where
   module _ (small : length S < 256 ^ l .lengthBytes) where
     over-tree : (id action : ℕ) (text : List ℕ) (inner rest : Forest) → Passes l id action text inner → Listed inner →
         Listed rest → Listed (tree id action text inner rest)
-    unfolding units ids through withHad
+    unfolding units ids through withState
     over-tree id action text inner rest p over-inner over-rest pos more o os F us here room some =
-        let next = admit (o .had) id in
+        let next = admit (o .state) id in
         let end = unitHere l pos id action text inner .end in
         let bytes = unitBytes l id action text (encode l inner) in
         let later = encode l rest ++ more in
@@ -154,7 +151,7 @@ module _ (l : Layout) (S : List ℕ) where
         let nested : false ≡ true → ⊥ = λ r. let z : _≡_ {A = ℕ} 0 1 = cc in omega arith in
         let few : sizeOf l text inner < 256 ^ l .lengthBytes = omega (arith, length-drop pos S) in
         let ahead = encode l rest ++ take n more in
-        let judged = unit-judged p few false (o .had) next (admits-nested (o .had) id) some-next ahead (λ r. absurd (nested r)) in
+        let judged = unit-judged p few false (o .state) next (admits-nested (o .state) id) some-next ahead (λ r. absurd (nested r)) in
         let fuel : suc (units inner + units rest) + F ≡ suc (units inner + (units rest + F)) = omega arith in
         let stop : pos + length (encode l (tree id action text inner rest)) ≡ end + length (encode l rest) = omega arith in
         rw (
@@ -162,8 +159,8 @@ module _ (l : Layout) (S : List ℕ) where
           step-inside l S o os pos (omega arith),
           left,
           judged,
-          over-entered pos id action text inner later front p over-inner (λ had. withHad o had ∷ os) next (units rest + F) us,
-          over-rest end more (withHad o next) os F _ (rest-here pos id action text inner later front) (omega arith) some,
+          over-entered pos id action text inner later front p over-inner (λ state. withState o state ∷ os) next (units rest + F) us,
+          over-rest end more (withState o next) os F _ (rest-here pos id action text inner later front) (omega arith) some,
           stop,
           list-tree,
           reverseAux-append,
@@ -195,8 +192,8 @@ root-lists l wide s id action text inner root fit e short =
     let here = sym e ∙ encode-tree l id action text inner none in
     let long : length s ≡ sizeOf l text inner + length (encode l none) = rw (here, length-append, length-unit) in
     let alone : (encode l none ≡ []) × (sizeOf l text inner ≤ l .limit) = (encode-none l, omega arith) in
-    let found = unit-judged (fit .0) (omega arith) true 0 skipped (root-admits 0 id root) (λ z. omega arith) _ (λ r. alone) in
-    let judged : judgeOf l true 0 s ≡ Found id action (prefixOf l + ownOf id text) (sizeOf l text inner) skipped = rw here found in
+    let found = unit-judged (fit .0) (omega arith) true 0 (nothing id) (admits-root 0 id root) (root-opens id root) _ (λ r. alone) in
+    let judged : judgeOf l true 0 s ≡ Found id action (prefixOf l + ownOf id text) (sizeOf l text inner) (nothing id) = rw here found in
     let left = length s - suc (units inner) in
     let fuel : length s ≡ units inner + suc left = omega (arith, few-units l inner) in
     let over-inner = over l s (omega arith) inner (fit .1) in
@@ -204,7 +201,7 @@ root-lists l wide s id action text inner root fit e short =
       listing-steps,
       judged,
       fuel,
-      over-entered l s 0 id action text inner (encode l none) here (fit .0) over-inner (λ had. []) skipped (suc left) [],
+      over-entered l s 0 id action text inner (encode l none) here (fit .0) over-inner (λ state. []) (nothing id) (suc left) [],
       steps-end,
       reverseAux-reverseAux-nil,
       list-one,

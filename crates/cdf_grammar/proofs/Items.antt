@@ -6,44 +6,39 @@ use mathlib.Core.List.{List, [], _∷_, _++_, map, append-assoc, append-nil, map
 use native.Mathlib.Omega.{arith}
 use lib.ListN.{length, take, drop}
 use lib.Seq.{take-at, drop-drop, drop-append-seam}
-use Rattle.cdf_format.specs.Layout.{Layout, prefixOf}
-use Rattle.cdf_format.specs.Grammar.{opens}
+use Rattle.cdf_prefix.specs.Layout.{Layout, prefixOf}
+use Rattle.cdf_table.specs.States.{opens}
 use Rattle.cdf_grammar.specs.Trees.{Forest, none, tree, ids}
-use Rattle.cdf_grammar.specs.Encoding.{prefixBytes, unitBytes, encode, list, Item, itemOf}
+use Rattle.cdf_grammar.specs.Encoding.{prefixBytes, unitBytes, encode, list, Item, itemOf, says}
 use Rattle.cdf_grammar.proofs.Fits.{ownOf, Passes, Fits}
-use Rattle.cdf_format.specs.Ranks.{rank}
-use Rattle.cdf_format.proofs.Ranks.{rank-most}
-use Rattle.cdf_grammar.proofs.Ranks.{Ranked, Lower, lower, nested}
+use Rattle.cdf_table.specs.Heights.{height}
+use Rattle.cdf_table.proofs.Heights.{height-most}
+use Rattle.cdf_grammar.proofs.Heights.{OfHeight, Lower, lower, nested}
 use Rattle.cdf_grammar.proofs.Unique.{leaf-empty, unit-parts}
 use Rattle.cdf_grammar.proofs.Prefixes.{length-prefix}
 
 abbrev item : ℕ → ℕ → List ℕ → Item
 item id action text = record { id = id; action = action; text = text }
 
--- Each unit before those nested in it.
-unfoldable pub says : Forest → List Item
-says none = []
-says (tree id action text inner rest) = item id action text ∷ (says inner ++ says rest)
-
--- The first item, if any, is of rank n or higher.
+-- The first item, if any, is of height n or higher.
 abbrev Upper : ℕ → List Item → Type 0
 Upper n [] = record {}
-Upper n (x ∷ xs) = n ≤ rank (x .id)
+Upper n (x ∷ xs) = n ≤ height (x .id)
 
 -- What follows the units nested in a unit: a sibling of the unit, or what follows the siblings.
-upper : (r n : ℕ) (f : Forest) (xs : List Item) → r < n → Ranked r (ids f) → Upper n xs → Upper r (says f ++ xs)
+upper : (r n : ℕ) (f : Forest) (xs : List Item) → r < n → OfHeight r (ids f) → Upper n xs → Upper r (says f ++ xs)
 unfolding says ids
-upper r n none [] less ranked up = record {}
-upper r n none (x ∷ xs) less ranked up = omega arith
-upper r n (tree id action text inner rest) xs less ranked up = omega arith
+upper r n none [] less same up = record {}
+upper r n none (x ∷ xs) less same up = omega arith
+upper r n (tree id action text inner rest) xs less same up = omega arith
 
--- Trees end where an item ranks as high as what follows them.
+-- Trees end where an item is as high as what follows them.
 said : (l : Layout) (f g : Forest) (n : ℕ) (xs ys : List Item) → Fits l f → Fits l g → Lower n (ids f) → Lower n (ids g) →
     Upper n xs → Upper n ys → says f ++ xs ≡ says g ++ ys → (f ≡ g) × (xs ≡ ys)
 unfolding says ids
 said l none none n xs ys p q lf lg ux uy e = (refl, e)
-said l none (tree j b t g y) n xs ys p q lf lg ux uy e = let high : n ≤ rank j = rw e at ux in absurd (omega arith)
-said l (tree i a s f x) none n xs ys p q lf lg ux uy e = let high : n ≤ rank i = rw (← e) at uy in absurd (omega arith)
+said l none (tree j b t g y) n xs ys p q lf lg ux uy e = let high : n ≤ height j = rw e at ux in absurd (omega arith)
+said l (tree i a s f x) none n xs ys p q lf lg ux uy e = let high : n ≤ height i = rw (← e) at uy in absurd (omega arith)
 said l (tree i a s f x) (tree j b t g y) n xs ys (p, pf, px) (q, qg, qy) lf lg ux uy e =
     let head : item i a s ≡ item j b t = cc in
     let same-id : i ≡ j = ap (λ (z : Item). z .id) head in
@@ -51,11 +46,11 @@ said l (tree i a s f x) (tree j b t g y) n xs ys (p, pf, px) (q, qg, qy) lf lg u
     let same-text : s ≡ t = ap (λ (z : Item). z .text) head in
     let tail : (says f ++ says x) ++ xs ≡ (says g ++ says y) ++ ys = cc in
     let within =
-    said l f g (rank i) (says x ++ xs) (says y ++ ys) pf qg (nested p) (rw (← same-id) at (nested q))
-    (upper (rank i) n x xs (lf .0) (lf .1) ux) (rw (← same-id) at (upper (rank j) n y ys (lg .0) (lg .1) uy))
+    said l f g (height i) (says x ++ xs) (says y ++ ys) pf qg (nested p) (rw (← same-id) at (nested q))
+    (upper (height i) n x xs (lf .0) (lf .1) ux) (rw (← same-id) at (upper (height j) n y ys (lg .0) (lg .1) uy))
     (simp append-assoc at tail) in
     let behind =
-    said l x y n xs ys px qy (lower (rank i) n (ids x) (lf .0) (lf .1)) (lower (rank j) n (ids y) (lg .0) (lg .1))
+    said l x y n xs ys px qy (lower (height i) n (ids x) (lf .0) (lf .1)) (lower (height j) n (ids y) (lg .0) (lg .1))
     ux uy (within .1) in
     (cc, behind .1)
 
@@ -63,7 +58,7 @@ said l (tree i a s f x) (tree j b t g y) n xs ys (p, pf, px) (q, qg, qy) lf lg u
 pub said-once : (l : Layout) (t u : Forest) {i j : ℕ} → Fits l t → Fits l u → ids t ≡ i ∷ [] → ids u ≡ j ∷ [] →
     says t ≡ says u → t ≡ u
 said-once l t u {i} {j} p q ti uj e =
-    said l t u 5 [] [] p q (rw ti (omega (arith, rank-most i), record {})) (rw uj (omega (arith, rank-most j), record {}))
+    said l t u 5 [] [] p q (rw ti (omega (arith, height-most i), record {})) (rw uj (omega (arith, height-most j), record {}))
     (record {}) (record {}) (simp append-nil e) .0
 
 -- What stands at a position, past its first bytes.

@@ -5,15 +5,16 @@ use mathlib.Core.Bool.{Bool, true, false, not, _||_, cond, false≢true, or-true
 use mathlib.Core.List.{List, [], _∷_}
 use mathlib.Core.Logic.{_↔_, ⊎-elim, inl, inr}
 use native.Mathlib.Omega.{arith}
-use borrow.Author.Tests.{le-leb, lt-leb, eq-eqb, eqb-true}
+use borrow.Author.Tests.{le-leb, le-ltb, eq-eqb, eqb-true}
 use lib.Dec.{eqb}
 use lib.ListN.{List·getD-eq-default}
-use Rattle.cdf_format.specs.Grammar.{member, Rule, blank, name, nameValue, value, numbers, kinds, kindOf, known, actionAllowed, opens}
-use Rattle.cdf_format.proofs.Bools.{either}
-use Rattle.cdf_format.proofs.Rows.{none-opens}
+use Rattle.cdf_table.specs.Ids.{member, Rule, blank, name, nameValue, value, numbers, kinds, kindOf, known, actionAllowed, idsEnd}
+use Rattle.cdf_table.specs.States.{opens}
+use Rattle.cdf_table.proofs.Bools.{either}
+use Rattle.cdf_table.proofs.Rows.{none-opens}
 use Rattle.cdf_grammar.specs.Content.{Content, empty}
 use Rattle.cdf_grammar.specs.Published.{Text, noText, nameText, nameAndValue, valueText, numberText, productions, productionOf, Among}
-use Rattle.cdf_grammar.proofs.Tables.{same}
+use Rattle.cdf_table.proofs.Tables.{same}
 
 abbrev pub textOf : Rule → Text
 textOf blank = noText
@@ -47,11 +48,11 @@ found id = (
 due : ℕ → Facts
 due id = (kindOf id .actions, textOf (kindOf id .rule), empty, true, [])
 
-beyond : (id : ℕ) → 15 ≤ id → found id ≡ due id
+beyond : (id : ℕ) → idsEnd ≤ id → found id ≡ due id
 unfolding found due productionOf kindOf known
 beyond id h =
     rw (List·getD-eq-default productions _ h, List·getD-eq-default kinds _ h, none-opens id h)
-    (rw (le-leb 1 id (omega arith), lt-leb id 14 (omega arith)))
+    (rw (le-leb 1 id (omega arith), le-ltb id idsEnd h))
 
 pub record Agreed (id : ℕ) : Type 0 where
   pub actions : productionOf id .actions ≡ kindOf id .actions
@@ -62,7 +63,7 @@ pub record Agreed (id : ℕ) : Type 0 where
 
 pub agreed : (id : ℕ) → Agreed id
 unfolding found due productionOf kindOf known opens
-agreed id = let e = same found due 15 refl beyond id in
+agreed id = let e = same found due idsEnd refl beyond id in
     record {
       actions = ap (λ (p : Facts). p .0) e;
       text = ap (λ (p : Facts). p .1) e;

@@ -1,12 +1,11 @@
 pub mod Fits
-pub mod Tables
 pub mod Spelling
 pub mod KindsAgree
 pub mod RowsAgree
 pub mod Names
 pub mod TextAgrees
 pub mod Agrees
-pub mod Ranks
+pub mod Heights
 pub mod Unique
 pub mod Items
 pub mod Parts
@@ -20,3 +19,5 @@ pub mod Forward
 pub mod Written
 pub mod Backward
 pub mod Proved
+pub mod Completing
+pub mod Person

@@ -10,25 +10,25 @@ use borrow.Author.Tests.{eqb-true, eqb-false, eq-eqb, ne-eqb}
 use lib.Dec.{eqb}
 use lib.ListN.{length, take, drop, length-take}
 use lib.Seq.{take-take}
-use Rattle.cdf_format.specs.Layout.{Layout}
-use Rattle.cdf_format.specs.Grammar.{opens, complete}
-use Rattle.cdf_format.specs.Judge.{judgeOf}
-use Rattle.cdf_format.specs.Units.{End, unfinished, ended, fault, Listing, listingIn}
-use Rattle.cdf_format.specs.Stack.{incomplete, left, close, Step, done, refused, found, entered, withHad}
-use Rattle.cdf_format.specs.Stack.{stepIn, step, stepsFrom, steps}
-use Rattle.cdf_format.specs.declared.Unit.{Unit}
-use Rattle.cdf_format.specs.declared.Open.{Open}
-use Rattle.cdf_format.specs.declared.Judged.{Judged}
-use Rattle.cdf_format.specs.declared.Judged.the-variants.{Fault, Found}
-use Rattle.cdf_format.proofs.Parts.{Part, left-of}
-use Rattle.cdf_format.proofs.Placed.{placed}
-use Rattle.cdf_format.proofs.Entering.{unitOf}
-use Rattle.cdf_format.proofs.Follows.{follows}
+use Rattle.cdf_prefix.specs.Layout.{Layout}
+use Rattle.cdf_table.specs.States.{opens, complete}
+use Rattle.cdf_judge.specs.Judge.{judgeOf}
+use Rattle.cdf_units.specs.Units.{End, unfinished, ended, fault, Listing, listingIn}
+use Rattle.cdf_units.specs.Stack.{incomplete, left, close, Step, done, refused, found, entered, withState}
+use Rattle.cdf_units.specs.Stack.{stepIn, step, stepsFrom, steps}
+use Rattle.cdf_units.specs.declared.Unit.{Unit}
+use Rattle.cdf_units.specs.declared.Open.{Open}
+use Rattle.cdf_judge.specs.declared.Judged.{Judged}
+use Rattle.cdf_judge.specs.declared.Judged.the-variants.{Fault, Found}
+use Rattle.cdf_table.proofs.Parts.{Part, left-of}
+use Rattle.cdf_judge.proofs.Placed.{placed}
+use Rattle.cdf_units.proofs.Entering.{unitOf}
+use Rattle.cdf_units.proofs.Agreement.{follows}
 use Rattle.cdf_grammar.proofs.Stepping.{fresh}
 
 -- The moves, by the offset where the part starts in the whole.
 abbrev pub moved : ℕ → Open → Open
-moved base o = record { id = o .id; start = base + o .start; end = base + o .end; had = o .had }
+moved base o = record { state = o .state; start = base + o .start; end = base + o .end }
 
 abbrev pub movedUnit : ℕ → Unit → Unit
 movedUnit base u =
@@ -66,9 +66,9 @@ eqb-moved base m k = go (eqb m k) refl
 
 module _ (l : Layout) (S : List ℕ) (base n : ℕ) (t : List ℕ) (p : Part S base n t) where
   -- What is left of the part up to e is what is left of the whole up to there.
-  pub judge-local : (root : Bool) (had at e : ℕ) → e ≤ n →
-      judgeOf l root had (take (e - at) (drop at t)) ≡ judgeOf l root had (take (base + e - (base + at)) (drop (base + at) S))
-  judge-local root had at e h =
+  pub judge-local : (root : Bool) (state at e : ℕ) → e ≤ n →
+      judgeOf l root state (take (e - at) (drop at t)) ≡ judgeOf l root state (take (base + e - (base + at)) (drop (base + at) S))
+  judge-local root state at e h =
       let cut : base + e - (base + at) ≡ e - at = omega arith in
       let few : e - at ≤ base + n - (base + at) = omega arith in
       rw (cut, ← left-of S base n t p at, take-take (e - at) (base + n - (base + at)) (drop (base + at) S) few)
@@ -79,18 +79,18 @@ module _ (l : Layout) (S : List ℕ) (base n : ℕ) (t : List ℕ) (p : Part S b
     ends : LeavesEndBy n x
 
   -- A unit found in bytes that reach no further than the part ends in the part.
-  unit-local : (pos : ℕ) (root : Bool) (had : ℕ) (s : List ℕ) (around : ℕ → List Open) → length s ≤ n - pos →
+  unit-local : (pos : ℕ) (root : Bool) (state : ℕ) (s : List ℕ) (around : ℕ → List Open) → length s ≤ n - pos →
       ((next : ℕ) → EndBy n (around next)) →
-      Local (entered pos around (judgeOf l root had s))
-      (entered (base + pos) (λ next. map (moved base) (around next)) (judgeOf l root had s))
+      Local (entered pos around (judgeOf l root state s))
+      (entered (base + pos) (λ next. map (moved base) (around next)) (judgeOf l root state s))
   unfolding entered
-  unit-local pos root had s around h fits = go (judgeOf l root had s) refl
+  unit-local pos root state s around h fits = go (judgeOf l root state s) refl
     where
-      go : (j : Judged) → judgeOf l root had s ≡ j →
+      go : (j : Judged) → judgeOf l root state s ≡ j →
           Local (entered pos around j) (entered (base + pos) (λ next. map (moved base) (around next)) j)
       go (Fault k at) e = record { same = simp add-assoc; ends = record {} }
       go (Found id action own len next) e =
-          let z = placed l root had s e in
+          let z = placed l root state s e in
           simp add-assoc (by-opens (opens id) (omega arith))
         where
           u : Unit
@@ -108,7 +108,7 @@ module _ (l : Layout) (S : List ℕ) (base n : ℕ) (t : List ℕ) (p : Part S b
   stack-local : (os : List Open) (pos : ℕ) → EndBy n os → Local (step l t os pos) (step l S (map (moved base) os) (base + pos))
   unfolding step
   stack-local [] pos h = record { same = refl; ends = record {} }
-  stack-local (o ∷ os) pos h = rw eqb-moved (go (eqb (o .end) pos) (complete (o .had)) (stack-local os pos (h .1)))
+  stack-local (o ∷ os) pos h = rw eqb-moved (go (eqb (o .end) pos) (complete (o .state)) (stack-local os pos (h .1)))
     where
       go : (a b : Bool) → Local (step l t os pos) (step l S (map (moved base) os) (base + pos)) →
           Local (stepIn l t pos (cond a (cond b (close os pos) (incomplete (o .start))) (left (o ∷ os))))
@@ -117,8 +117,8 @@ module _ (l : Layout) (S : List ℕ) (base n : ℕ) (t : List ℕ) (p : Part S b
       go true true outer = outer
       go true false outer = record { same = refl; ends = record {} }
       go false b outer =
-          rw (← judge-local false (o .had) pos (o .end) (h .0))
-          (unit-local pos false (o .had) (take (o .end - pos) (drop pos t)) (λ next. withHad o next ∷ os)
+          rw (← judge-local false (o .state) pos (o .end) (h .0))
+          (unit-local pos false (o .state) (take (o .end - pos) (drop pos t)) (λ next. withState o next ∷ os)
           (simp length-take (omega arith)) (λ next. h))
 
   pub step-local : (os : List Open) (pos : ℕ) → EndBy n os → step l S (map (moved base) os) (base + pos) ≡ movedStep base (step l t os pos)
@@ -135,11 +135,11 @@ module _ (l : Layout) (S : List ℕ) (base n : ℕ) (t : List ℕ) (p : Part S b
       rw (next .same) (steps-local fuel (step l t os pos) (u ∷ us) (next .ends))
 
   -- So the unit list of the unit at the front of what an enclosing unit has left does not depend on where it stands.
-  pub listing-local : (had : ℕ) →
-      stepsFrom (suc (length t)) l S (entered base (λ next. []) (judgeOf l false had t)) [] ≡ movedListing base (listingIn l had t)
+  pub listing-local : (state : ℕ) →
+      stepsFrom (suc (length t)) l S (entered base (λ next. []) (judgeOf l false state t)) [] ≡ movedListing base (listingIn l state t)
   unfolding listingIn steps
-  listing-local had =
+  listing-local state =
       let here : base + 0 ≡ base = omega arith in
-      let x = entered 0 (λ next. []) (judgeOf l false had t) in
-      let first = rw here at (unit-local 0 false had t (λ next. []) (omega arith) (λ next. record {})) in
-      rw (← follows l t false had, first .same) (steps-local (suc (length t)) x [] (first .ends))
+      let x = entered 0 (λ next. []) (judgeOf l false state t) in
+      let first = rw here at (unit-local 0 false state t (λ next. []) (omega arith) (λ next. record {})) in
+      rw (← follows l t false state, first .same) (steps-local (suc (length t)) x [] (first .ends))

@@ -8,18 +8,18 @@ use native.Mathlib.Omega.{arith}
 use native.Mathlib.Decide.{decLt}
 use lib.Dec.{eqb}
 use lib.ListN.{take, drop, length-take}
-use Rattle.cdf_format.specs.Layout.{Layout}
-use Rattle.cdf_format.specs.Grammar.{opens, complete}
-use Rattle.cdf_format.specs.Judge.{judgeOf}
-use Rattle.cdf_format.specs.Units.{after, End, ended, Listing}
-use Rattle.cdf_format.specs.Stack.{Closing, incomplete, left, close, Step, done, refused, found, opened, entered, withHad}
-use Rattle.cdf_format.specs.Stack.{stepIn, step, stepsFrom}
-use Rattle.cdf_format.specs.declared.Unit.{Unit}
-use Rattle.cdf_format.specs.declared.Open.{Open}
-use Rattle.cdf_format.specs.declared.Judged.{Judged}
-use Rattle.cdf_format.specs.declared.Judged.the-variants.{Fault, Found}
-use Rattle.cdf_format.proofs.Placed.{placed}
-use Rattle.cdf_format.proofs.Entering.{after-between, unitOf}
+use Rattle.cdf_prefix.specs.Layout.{Layout}
+use Rattle.cdf_table.specs.States.{opens, complete}
+use Rattle.cdf_judge.specs.Judge.{judgeOf}
+use Rattle.cdf_units.specs.Units.{after, End, ended, Listing}
+use Rattle.cdf_units.specs.Stack.{Closing, incomplete, left, close, Step, done, refused, found, opened, entered, withState}
+use Rattle.cdf_units.specs.Stack.{stepIn, step, stepsFrom}
+use Rattle.cdf_units.specs.declared.Unit.{Unit}
+use Rattle.cdf_units.specs.declared.Open.{Open}
+use Rattle.cdf_judge.specs.declared.Judged.{Judged}
+use Rattle.cdf_judge.specs.declared.Judged.the-variants.{Fault, Found}
+use Rattle.cdf_judge.proofs.Placed.{placed}
+use Rattle.cdf_units.proofs.Entering.{after-between, unitOf}
 use Rattle.cdf_grammar.proofs.Stepping.{fresh, step-inside, step-closes, refused-never, spent-never}
 
 -- What closing leaves of a stack with others around it, from what it leaves of the stack alone.
@@ -31,7 +31,7 @@ closeOnward outer pos (left (o ∷ os)) = left (o ∷ (os ++ outer))
 pub nest-close : (inner outer : List Open) (pos : ℕ) → close (inner ++ outer) pos ≡ closeOnward outer pos (close inner pos)
 unfolding close
 nest-close [] outer pos = refl
-nest-close (o ∷ os) outer pos = go (eqb (o .end) pos) (complete (o .had)) (nest-close os outer pos)
+nest-close (o ∷ os) outer pos = go (eqb (o .end) pos) (complete (o .state)) (nest-close os outer pos)
   where
     go : (a b : Bool) → close (os ++ outer) pos ≡ closeOnward outer pos (close os pos) →
         cond a (cond b (close (os ++ outer) pos) (incomplete (o .start))) (left (o ∷ (os ++ outer)))
@@ -101,14 +101,14 @@ module _ (l : Layout) (S : List ℕ) where
   nest-step inner outer pos = rw nest-close (go (close inner pos))
     where
       unit : (o : Open) (os : List Open) (j : Judged) →
-          entered pos (λ had. withHad o had ∷ (os ++ outer)) j ≡ onward outer pos (entered pos (λ had. withHad o had ∷ os) j)
+          entered pos (λ state. withState o state ∷ (os ++ outer)) j ≡ onward outer pos (entered pos (λ state. withState o state ∷ os) j)
       unit o os (Fault n k) = refl
-      unit o os (Found id action own len had) = rw (nest-opened _ (withHad o had ∷ os) outer)
+      unit o os (Found id action own len state) = rw (nest-opened _ (withState o state ∷ os) outer)
 
       go : (c : Closing) → stepIn l S pos (closeOnward outer pos c) ≡ onward outer pos (stepIn l S pos c)
       go (incomplete at) = refl
       go (left []) = refl
-      go (left (o ∷ os)) = unit o os (judgeOf l false (o .had) (take (o .end - pos) (drop pos S)))
+      go (left (o ∷ os)) = unit o os (judgeOf l false (o .state) (take (o .end - pos) (drop pos S)))
 
   -- A step keeps to the span: what it finds lies there, and what is open after it spans the rest.
   abbrev Inner : ℕ → ℕ → Step → Type 0
@@ -117,22 +117,22 @@ module _ (l : Layout) (S : List ℕ) where
   Inner pos end (found u os later) = Lies pos end u × (pos ≤ later) × Spans later os end
 
   step-spans : (os : List Open) (pos end : ℕ) → Spans pos os end → Inner pos end (step l S os pos)
-  unfolding step withHad
+  unfolding step withState
   step-spans [] pos end h = h
   step-spans (o ∷ os) pos end h = go (decLt pos (o .end)) (step-spans os pos end)
     where
       s : List ℕ
       s = take (o .end - pos) (drop pos S)
 
-      unit : (j : Judged) → judgeOf l false (o .had) s ≡ j → Inner pos end (entered pos (λ had. withHad o had ∷ os) j)
+      unit : (j : Judged) → judgeOf l false (o .state) s ≡ j → Inner pos end (entered pos (λ state. withState o state ∷ os) j)
       unit (Fault n k) e = record {}
       unit (Found id action own len next) e =
-          let p = placed l false (o .had) s e in
+          let p = placed l false (o .state) s e in
           let u = unitOf pos id action own len in
           let few = length-take (o .end - pos) (drop pos S) in
           let up = spans-up os (o .end) end (h .1) in
           let between = after-between u (omega arith) in
-          let inner = opened-spans u (withHad o next ∷ os) end (omega arith) (omega arith, h .1) in
+          let inner = opened-spans u (withState o next ∷ os) end (omega arith) (omega arith, h .1) in
           (record { low = omega arith; nonempty = omega arith; high = omega arith }, omega arith, inner)
 
       closes : (b : Bool) → Inner pos end (step l S os pos) → Inner pos end (cond b (step l S os pos) (refused 10 (o .start)))
@@ -140,10 +140,10 @@ module _ (l : Layout) (S : List ℕ) where
       closes false more = record {}
 
       go : Dec (pos < o .end) → (Spans pos os end → Inner pos end (step l S os pos)) → Inner pos end (step l S (o ∷ os) pos)
-      go (yes p) more = rw (step-inside l S o os pos p) (unit (judgeOf l false (o .had) s) refl)
+      go (yes p) more = rw (step-inside l S o os pos p) (unit (judgeOf l false (o .state) s) refl)
       go (no p) more =
           let at : o .end ≡ pos = omega arith in
-          rw (step-closes l S o os pos at) (closes (complete (o .had)) (more (rw at at (h .1))))
+          rw (step-closes l S o os pos at) (closes (complete (o .state)) (more (rw at at (h .1))))
 
   -- The listing goes on: after those units the steps are those of what is around, from the end.
   pub record Leaves (outer : List Open) (pos end F : ℕ) (us : List Unit) (x : Listing) : Type 0 where

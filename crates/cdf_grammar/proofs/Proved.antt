@@ -5,25 +5,26 @@ use mathlib.Core.Bool.{true}
 use mathlib.Core.List.{List, [], _∷_}
 use native.Mathlib.Omega.{arith}
 use lib.ListN.{length}
-use Rattle.cdf_format.specs.Layout.{Layout, layoutOf}
-use Rattle.cdf_format.specs.Grammar.{rootKind}
-use Rattle.cdf_format.specs.Units.{End, unfinished, ended, fault, Listing, listing}
-use Rattle.cdf_format.specs.Check.{Answer, answerOf, checkOf}
-use Rattle.cdf_format.specs.Samples.{k2}
-use Rattle.cdf_format.specs.declared.Edition.{Edition}
-use Rattle.cdf_format.specs.declared.Edition.the-variants.{First, Second}
-use Rattle.cdf_format.proofs.Faults.{numbered}
+use Rattle.cdf_prefix.specs.Layout.{Layout, layoutOf}
+use Rattle.cdf_table.specs.States.{rootKind}
+use Rattle.cdf_units.specs.Units.{End, unfinished, ended, fault, Listing, listing}
+use Rattle.cdf_units.specs.Check.{Answer, answerOf, checkOf}
+use Rattle.cdf_units.specs.Samples.{k2}
+use Rattle.cdf_prefix.specs.declared.Edition.{Edition}
+use Rattle.cdf_prefix.specs.declared.Edition.the-variants.{First, Second}
+use Rattle.cdf_units.proofs.Numbered.{numbered}
 use Rattle.cdf_grammar.specs.Trees.{Forest, ids, units}
-use Rattle.cdf_grammar.specs.Encoding.{Bytes, Stream, encode, list}
+use Rattle.cdf_grammar.specs.Encoding.{Bytes, Stream, encode, list, says}
 use Rattle.cdf_grammar.specs.Example.{person}
-use Rattle.cdf_grammar.specs.Claims.{Accepted, itemsOf, Of, Claims}
+use Rattle.cdf_grammar.specs.Claims.{Accepted, itemsOf, InEdition, Claims}
 use Rattle.cdf_grammar.proofs.Fits.{Fits}
 use Rattle.cdf_grammar.proofs.Agrees.{fits, conforms, root-agrees}
 use Rattle.cdf_grammar.proofs.Forward.{lists, length-list}
 use Rattle.cdf_grammar.proofs.Backward.{built}
-use Rattle.cdf_grammar.proofs.Ranks.{depth-most}
+use Rattle.cdf_grammar.proofs.Heights.{depth-most}
+use Rattle.cdf_grammar.proofs.Person.{person-grammatical}
 use Rattle.cdf_grammar.proofs.Unique.{unique}
-use Rattle.cdf_grammar.proofs.Items.{says, said-once, items}
+use Rattle.cdf_grammar.proofs.Items.{said-once, items}
 
 -- An answer of 0 is a list that ended: a fault has another number.
 ends : (l : Layout) (s : List ℕ) → Accepted l s → listing l s .end ≡ ended
@@ -37,17 +38,17 @@ ends l s e = go (listing l s .end) refl e
 
 module _ (l : Layout) (room : l .limit < 256 ^ l .lengthBytes) where
   -- A stream of the published grammar, in the words of the rules of one unit.
-  record Tree (s : List ℕ) (t : Forest) : Type 0 where
+  record TreeOf (s : List ℕ) (t : Forest) : Type 0 where
     id : ℕ
     single : ids t ≡ id ∷ []
     kind : rootKind id ≡ true
     fit : Fits l t
     small : length s < 256 ^ l .lengthBytes
 
-  tree-of : (s : List ℕ) (t : Forest) → Stream l s t → Tree s t
+  tree-of : (s : List ℕ) (t : Forest) → Stream l s t → TreeOf s t
   tree-of s t p =
-      let r = root-agrees t .0 (p .root) in
-      record { id = r .0; single = r .1; kind = r .2; fit = fits l t (p .conforms); small = omega (arith, p .within) }
+      let r = root-agrees t .0 (p .tree .root) in
+      record { id = r .0; single = r .1; kind = r .2; fit = fits l t (p .tree .conforms); small = omega (arith, p .within) }
 
   whole : (s : List ℕ) (t : Forest) → Stream l s t → listing l s ≡ record { units = list l 0 t; end = ended }
   whole s t p =
@@ -63,8 +64,7 @@ module _ (l : Layout) (room : l .limit < 256 ^ l .lengthBytes) where
       let w = built l s b (ends l s e) in (
         w .0,
         record {
-          root = root-agrees (w .0) .1 (w .1, w .2, w .3);
-          conforms = conforms l (w .0) (w .4);
+          tree = record { root = root-agrees (w .0) .1 (w .1, w .2, w .3); conforms = conforms l (w .0) (w .4) };
           within = w .6;
           bytes = w .5;
         },
@@ -92,7 +92,7 @@ roomy : (e : Edition) → layoutOf e .limit < 256 ^ layoutOf e .lengthBytes
 roomy First = omega arith
 roomy Second = omega arith
 
-of : (e : Edition) → Of e
+of : (e : Edition) → InEdition e
 of e =
     let l = layoutOf e in
     let room = roomy e in
@@ -108,9 +108,13 @@ of e =
           same-bytes l room s r (t .0) (u .0) (t .1) (u .1) e;
     }
 
-example : encode (layoutOf First) person ≡ k2
+example : Stream (layoutOf First) k2 person
 unfolding encode
-example = refl
+example = record {
+  tree = person-grammatical;
+  within = omega arith;
+  bytes = refl;
+}
 
 pub proved : Claims
 proved = record { streams = of; example = example }

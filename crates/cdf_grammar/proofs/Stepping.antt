@@ -7,37 +7,33 @@ use Prim.Native.Nat.{ℕ, zero, suc, _+_, _-_, _<_}
 use native.Mathlib.Omega.{arith}
 use borrow.Author.Tests.{eq-eqb, ne-eqb}
 use lib.ListN.{length, take, drop}
-use Rattle.cdf_format.specs.Layout.{Layout}
-use Rattle.cdf_format.specs.Grammar.{admit, admits, opens, nothing, complete}
-use Rattle.cdf_format.specs.Judge.{judgeOf}
-use Rattle.cdf_format.specs.Units.{after, ended, listing}
-use Rattle.cdf_format.specs.Stack.{incomplete, close, Step, refused, found, opened, entered, withHad, stepIn, step}
-use Rattle.cdf_format.specs.Stack.{stepsFrom, steps}
-use Rattle.cdf_format.specs.declared.Unit.{Unit}
-use Rattle.cdf_format.specs.declared.Open.{Open}
-use Rattle.cdf_format.specs.declared.Judged.the-variants.{Fault, Found}
-use Rattle.cdf_format.proofs.Entering.{unitOf}
-use Rattle.cdf_format.proofs.Follows.{follows}
+use Rattle.cdf_prefix.specs.Layout.{Layout}
+use Rattle.cdf_table.specs.States.{opens, nothing, complete}
+use Rattle.cdf_judge.specs.Judge.{judgeOf}
+use Rattle.cdf_units.specs.Units.{after, ended, listing}
+use Rattle.cdf_units.specs.Stack.{incomplete, close, Step, refused, found, opened, entered, withState, stepIn, step}
+use Rattle.cdf_units.specs.Stack.{stepsFrom, steps}
+use Rattle.cdf_units.specs.declared.Unit.{Unit}
+use Rattle.cdf_units.specs.declared.Open.{Open}
+use Rattle.cdf_judge.specs.declared.Judged.the-variants.{Fault, Found}
+use Rattle.cdf_units.proofs.Entering.{unitOf}
+use Rattle.cdf_units.proofs.Agreement.{follows}
 
 -- A unit that was just entered: it has had nothing.
 abbrev pub fresh : Unit → Open
-fresh u = record { id = u .id; start = u .start; end = u .end; had = nothing (u .id) }
-
-pub admits-nested : (had id : ℕ) → admits false had id ≡ admit had id
-unfolding admits
-admits-nested had id = refl
+fresh u = record { state = nothing (u .id); start = u .start; end = u .end }
 
 module _ (l : Layout) (s : List ℕ) where
   pub step-inside : (o : Open) (os : List Open) (pos : ℕ) → pos < o .end →
       step l s (o ∷ os) pos
-      ≡ entered pos (λ had. withHad o had ∷ os) (judgeOf l false (o .had) (take (o .end - pos) (drop pos s)))
+      ≡ entered pos (λ state. withState o state ∷ os) (judgeOf l false (o .state) (take (o .end - pos) (drop pos s)))
   unfolding step stepIn close
   step-inside o os pos h = rw (ne-eqb (o .end) pos (λ e. omega arith))
 
   pub step-closes : (o : Open) (os : List Open) (pos : ℕ) → o .end ≡ pos →
-      step l s (o ∷ os) pos ≡ cond (complete (o .had)) (step l s os pos) (refused 10 (o .start))
+      step l s (o ∷ os) pos ≡ cond (complete (o .state)) (step l s os pos) (refused 10 (o .start))
   unfolding step stepIn close
-  step-closes o os pos e = rw (eq-eqb (o .end) pos e) (go (complete (o .had)))
+  step-closes o os pos e = rw (eq-eqb (o .end) pos e) (go (complete (o .state)))
     where
       go : (b : Bool) →
           stepIn l s pos (cond b (close os pos) (incomplete (o .start)))
@@ -64,7 +60,7 @@ module _ (l : Layout) (s : List ℕ) where
   unfolding stepsFrom
   spent-never x us q = let z : _≡_ {A = ℕ} 0 1 = cc in omega arith
 
-  pub listing-steps : listing l s ≡ stepsFrom (suc (length s)) l s (entered 0 (λ had. []) (judgeOf l true 0 s)) []
+  pub listing-steps : listing l s ≡ stepsFrom (suc (length s)) l s (entered 0 (λ state. []) (judgeOf l true 0 s)) []
   unfolding listing steps
   listing-steps = rw (← follows l s true 0)
 
@@ -72,11 +68,11 @@ pub faults : (pos : ℕ) (around : ℕ → List Open) (n k : ℕ) → entered po
 unfolding entered
 faults pos around n k = refl
 
-pub enters : (pos : ℕ) (around : ℕ → List Open) (id action own len had : ℕ) →
-    entered pos around (Found id action own len had)
-    ≡ found (unitOf pos id action own len) (opened (unitOf pos id action own len) (around had)) (after (unitOf pos id action own len))
+pub enters : (pos : ℕ) (around : ℕ → List Open) (id action own len state : ℕ) →
+    entered pos around (Found id action own len state)
+    ≡ found (unitOf pos id action own len) (opened (unitOf pos id action own len) (around state)) (after (unitOf pos id action own len))
 unfolding entered
-enters pos around id action own len had = refl
+enters pos around id action own len state = refl
 
 module _ (u : Unit) (os : List Open) where
   pub opened-parent : opens (u .id) ≡ true → (opened u os ≡ fresh u ∷ os) × (after u ≡ u .own)

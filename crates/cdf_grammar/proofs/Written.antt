@@ -6,11 +6,11 @@ use Prim.Native.Nat.{ℕ, _+_, _-_}
 use native.Mathlib.Omega.{arith}
 use lib.ListN.{length, take, drop, length-append, length-take, length-drop}
 use lib.Seq.{take-add}
-use Rattle.cdf_format.specs.Layout.{Layout, prefixOf}
-use Rattle.cdf_format.specs.Grammar.{opens, nothing, complete}
-use Rattle.cdf_format.specs.Data.{ownData}
-use Rattle.cdf_format.specs.declared.Own.the-variants.{Taken}
-use Rattle.cdf_format.proofs.Placed.{Placed}
+use Rattle.cdf_prefix.specs.Layout.{Layout, prefixOf}
+use Rattle.cdf_table.specs.States.{opens, nothing, complete}
+use Rattle.cdf_data.specs.Data.{ownData}
+use Rattle.cdf_data.specs.declared.Own.the-variants.{Taken}
+use Rattle.cdf_judge.proofs.Placed.{Placed}
 use Rattle.cdf_grammar.specs.Trees.{Forest, none, ids}
 use Rattle.cdf_grammar.specs.Encoding.{prefixBytes, unitBytes, encode, Bytes}
 use Rattle.cdf_grammar.proofs.Fits.{through, Passes, Fits}
@@ -31,8 +31,8 @@ pub record UnitIs (l : Layout) (id : ℕ) (s : List ℕ) : Type 0 where
   pub fits : Fits l inner
   pub bytes : s ≡ unitBytes l id action text (encode l inner)
 
-pub unit-written : {l : Layout} {root : Bool} {had : ℕ} {s : List ℕ} {id action own len next : ℕ} →
-    Placed l root had s id action own len next → Bytes s → (body : List ℕ) → body ≡ take (len - prefixOf l) (drop (prefixOf l) s) →
+pub unit-written : {l : Layout} {root : Bool} {state : ℕ} {s : List ℕ} {id action own len next : ℕ} →
+    Placed l root state s id action own len next → Bytes s → (body : List ℕ) → body ≡ take (len - prefixOf l) (drop (prefixOf l) s) →
     (inner : Forest) → textOf id (own - prefixOf l) body ++ encode l inner ≡ body →
     (opens id ≡ true → complete (through (nothing id) (ids inner)) ≡ true) → (opens id ≡ false → inner ≡ none) → Fits l inner →
     UnitIs l id (take len s)

@@ -4,14 +4,14 @@ use Prim.Native.Nat.{ℕ, _≤_}
 use mathlib.Core.Path.{_≡_}
 use mathlib.Core.List.{List, map}
 use mathlib.Core.Logic.{_↔_}
-use Rattle.cdf_format.specs.Layout.{Layout, layoutOf}
-use Rattle.cdf_format.specs.Units.{listing}
-use Rattle.cdf_format.specs.Check.{checkOf}
-use Rattle.cdf_format.specs.Samples.{k2}
-use Rattle.cdf_format.specs.declared.Edition.{Edition}
-use Rattle.cdf_format.specs.declared.Edition.the-variants.{First}
+use Rattle.cdf_prefix.specs.Layout.{Layout, layoutOf}
+use Rattle.cdf_units.specs.Units.{listing}
+use Rattle.cdf_units.specs.Check.{checkOf}
+use Rattle.cdf_units.specs.Samples.{k2}
+use Rattle.cdf_prefix.specs.declared.Edition.{Edition}
+use Rattle.cdf_prefix.specs.declared.Edition.the-variants.{First}
 use Rattle.cdf_grammar.specs.Trees.{Forest, units, depth}
-use Rattle.cdf_grammar.specs.Encoding.{Bytes, Stream, encode, list, Item, itemOf}
+use Rattle.cdf_grammar.specs.Encoding.{Bytes, Stream, list, Item, itemOf}
 use Rattle.cdf_grammar.specs.Example.{person}
 
 -- The check accepts these bytes.
@@ -23,8 +23,8 @@ unfoldable pub itemsOf : Layout → List ℕ → List Item
 unfolding itemOf listing
 itemsOf l s = map (itemOf l s) (listing l s .units)
 
--- Of the streams of one edition. `A ↔ B` is 'A exactly if B', and `(t : Forest) × P t` is 'there is a t with P t'.
-pub record Of (e : Edition) : Type 0 where
+-- What holds in one edition. `A ↔ B` is 'A exactly if B', and `(t : Forest) × P t` is 'there is a t with P t'.
+pub record InEdition (e : Edition) : Type 0 where
   -- Bytes are accepted exactly if a tree of the published grammar encodes to them within the limit.
   pub exactly : (s : List ℕ) → Bytes s → Accepted (layoutOf e) s ↔ ((t : Forest) × Stream (layoutOf e) s t)
   -- The count is that tree's number of units.
@@ -42,6 +42,6 @@ pub record Of (e : Edition) : Type 0 where
 
 pub record Claims : Type 0 where
   -- All of this holds in each edition.
-  pub streams : (e : Edition) → Of e
-  -- The example's tree encodes to the sample K2.
-  pub example : encode (layoutOf First) person ≡ k2
+  pub streams : (e : Edition) → InEdition e
+  -- The sample K2 is a stream: the example's tree.
+  pub example : Stream (layoutOf First) k2 person

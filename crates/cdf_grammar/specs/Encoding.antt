@@ -3,12 +3,11 @@ use Prim.Native.Nat.{ℕ, zero, suc, _+_, _-_, _/_, _%_, _≤_, _<_}
 use mathlib.Core.Path.{_≡_}
 use mathlib.Core.List.{List, [], _∷_, _++_}
 use lib.ListN.{length, take, drop, getD}
-use Rattle.cdf_format.specs.Layout.{Layout, prefixOf}
-use Rattle.cdf_format.specs.Units.{after}
-use Rattle.cdf_format.specs.declared.Unit.{Unit}
-use Rattle.cdf_grammar.specs.Content.{Spells}
-use Rattle.cdf_grammar.specs.Trees.{Forest, none, tree, ids}
-use Rattle.cdf_grammar.specs.Published.{Text, noText, nameText, nameAndValue, valueText, numberText, Each, productionOf, Conforms, cdfDataStream}
+use Rattle.cdf_prefix.specs.Layout.{Layout, prefixOf}
+use Rattle.cdf_units.specs.Units.{after}
+use Rattle.cdf_units.specs.declared.Unit.{Unit}
+use Rattle.cdf_grammar.specs.Trees.{Forest, none, tree}
+use Rattle.cdf_grammar.specs.Published.{Text, noText, nameText, nameAndValue, valueText, numberText, Each, productionOf, InGrammar}
 
 -- A number in k bytes, high byte first.
 unfoldable pub bytesOf : ℕ → ℕ → List ℕ
@@ -55,8 +54,7 @@ Bytes s = Each (λ b. b < 256) s
 
 -- The bytes are a stream of the published grammar: this tree, within the limit, in this layout.
 pub record Stream (l : Layout) (s : List ℕ) (t : Forest) : Type 0 where
-  pub root : Spells cdfDataStream (ids t)
-  pub conforms : Conforms t
+  pub tree : InGrammar t
   pub within : length s ≤ l .limit
   pub bytes : encode l t ≡ s
 
@@ -65,6 +63,12 @@ pub record Item : Type 0 where
   pub id : ℕ
   pub action : ℕ
   pub text : List ℕ
+
+-- What the units of trees say, in order: each unit before those nested in it.
+unfoldable pub says : Forest → List Item
+says none = []
+says (tree id action text inner rest) =
+    record { id = id; action = action; text = text } ∷ (says inner ++ says rest)
 
 -- What a listed unit of a stream says. Its own data ends where the next unit may stand.
 unfoldable pub itemOf : Layout → List ℕ → Unit → Item

@@ -174,3 +174,8 @@ pub record Follows (id action : ℕ) (text : List ℕ) (inner : Forest) : Type 0
 abbrev pub Conforms : Forest → Type 0
 Conforms none = record {}
 Conforms (tree id action text inner rest) = Follows id action text inner × Conforms inner × Conforms rest
+
+-- The tree is one of the published grammar: its root is one of a stream's, and every unit follows its production.
+pub record InGrammar (t : Forest) : Type 0 where
+  pub root : Spells cdfDataStream (ids t)
+  pub conforms : Conforms t

@@ -8,15 +8,15 @@ use borrow.Author.Needs.{needs}
 use borrow.Fn.Kinds.{In}
 use borrow.Fn.PlainCycle.{Measures, is, falls, and}
 use lib.ListN.{length, drop, length-take, length-drop}
-use Rattle.cdf_format.specs.Layout.{layoutOf}
-use Rattle.cdf_format.specs.Judge.{judgeOf}
-use Rattle.cdf_format.specs.declared.Judged.{Judged}
-use Rattle.cdf_format.proofs.grammar.is_complete.Reads as is-complete-reads
-use Rattle.cdf_format.proofs.grammar.opens_others.Reads as opens-others-reads
-use Rattle.cdf_format.proofs.judge.judge.Reads as judge-reads
-use Rattle.cdf_format.proofs.Parts.{rest, minus-plus}
-use Rattle.cdf_format.proofs.Faults.{offset-lies}
-use Rattle.cdf_check.proofs.Walked.{Going, begun, finished, stopped, Lies, lies, stopped-inside, on}
+use Rattle.cdf_prefix.specs.Layout.{layoutOf}
+use Rattle.cdf_judge.specs.Judge.{judgeOf}
+use Rattle.cdf_judge.specs.declared.Judged.{Judged}
+use Rattle.cdf_table.proofs.is_complete.Reads as is-complete-reads
+use Rattle.cdf_table.proofs.first_state.Reads as first-state-reads
+use Rattle.cdf_judge.proofs.judge.Reads as judge-reads
+use Rattle.cdf_table.proofs.Parts.{rest, minus-plus}
+use Rattle.cdf_judge.proofs.Faults.{offset-lies}
+use Rattle.cdf_check.proofs.Walked.{Going, begun, finished, stopped, Lies, lies, deeper, stopped-inside, on-inside, on-leaf}
 use Rattle.cdf_check.proofs.check_inside.Reads as reads
 use Rattle.cdf_check.proofs.check_inside.Kinds as kinds
 use Rattle.cdf_check.proofs.+check_inside.Lts-check_inside as lts
@@ -27,10 +27,11 @@ abbrev μ-levels : Measures 1 kinds.ps ℕ
 μ-levels κs a = a .1 .0
 
 abbrev Inv-loop : lts.InvT-loop
-Inv-loop edition levels s id base body count at₀ had₀ n₀ at had n = Going (layoutOf edition) levels s id base body count at had n
+Inv-loop edition levels s first base body count at₀ state₀ n₀ at state n =
+    Going (layoutOf edition) levels s first base body count at state n
 
 abbrev μ-loop : lts.MeasureT-loop
-μ-loop edition levels s id base body count at₀ had₀ n₀ at had n = length s - at
+μ-loop edition levels s first base body count at₀ state₀ n₀ at state n = length s - at
 
 -- t is the measure of the call in hand.
 module _ (t : ℕ) where
@@ -44,38 +45,35 @@ module _ (t : ℕ) where
   Calls = (
     judge-reads.Asked,
     judge-reads.Learnt,
-    opens-others-reads.Asked,
-    opens-others-reads.Learnt,
+    first-state-reads.Asked,
+    first-state-reads.Learnt,
     Below,
     reads.Post,
     is-complete-reads.Asked,
     is-complete-reads.Learnt,
   )
 
-  -- What the judge says in the loop, of what is left of the unit.
+  -- A place of the code is named by what was just learnt there: `turn` the loop's test, `seen` the judge's answer, `told` what
+  -- it found, `fresh` the unit's first state. What the judge says in the loop, of what is left of the unit:
   abbrev Judges : lts.After-judge Calls At reads.Post Inv-loop μ-loop → Judged → Type 0
-  Judges c j =
-      judgeOf (layoutOf (c .before .before .before .before .before .args .edition)) false (c .before .before .before .loop .had)
-      (drop (c .before .before .before .loop .at) (c .before .before .before .before .before .args .s .now))
-      ≡ j
+  Judges seen j =
+      let turn = seen .before .before in
+      let start = turn .before .before .before in
+      judgeOf (layoutOf (start .args .edition)) false (turn .before .loop .state) (drop (turn .before .loop .at) (start .args .s .now)) ≡ j
 
-  judged : (c : lts.After-judge Calls At reads.Post Inv-loop μ-loop) {j : Judged} → c .judge .result ≡ j → Judges c j
-  judged c e = sym (simp rest at (c .judge .ensures)) ∙ e
+  judged : (seen : lts.After-judge Calls At reads.Post Inv-loop μ-loop) {j : Judged} → seen .judge .result ≡ j → Judges seen j
+  judged seen e = sym (simp rest at (seen .judge .ensures)) ∙ e
 
   -- Where the unit lies that it found.
-  placed : (c : lts.After-known-told2 Calls At reads.Post Inv-loop μ-loop) →
-      Lies (c .before .before .before .before .before .before .before .before .args .levels)
-      (c .before .before .before .before .before .before .before .before .args .s .now)
-      (c .before .before .before .before .before .before .loop .at)
-      (c .before .child .given .0 .0)
-      (c .before .child .given .0 .1 .1 .0)
-      (c .before .child .given .0 .1 .1 .1 .0)
-      (c .before .child .given .0 .1 .1 .1 .1 .0)
-  placed c =
-      lies
-      (c .before .before .before .before .before .before .loop .inv)
-      (c .before .before .before .before .before .loop-test .taken)
-      (judged (c .before .before .before) (c .before .child .given .1))
+  placed : (told : lts.After-known-told2 Calls At reads.Post Inv-loop μ-loop) →
+      let turn = told .before .before .before .before .before in
+      let start = turn .before .before .before in
+      let unit = told .before .child .given .0 in
+      Lies (start .args .levels) (start .args .s .now) (turn .before .loop .at) (unit .0) (unit .1 .1 .0) (unit .1 .1 .1 .0) (unit .1 .1 .1 .1 .0)
+  placed told =
+      let seen = told .before .before .before in
+      let turn = seen .before .before in
+      lies (turn .before .loop .inv) (turn .loop-test .taken) (judged seen (told .before .child .given .1))
 
   loop-holds : lts.Need-loop-holds Calls At reads.Post Inv-loop μ-loop
   loop-holds c = begun _ _ _ _ _ _ _ (c .before .pre .1 .0) (omega arith) (omega arith)
@@ -105,10 +103,9 @@ module _ (t : ℕ) where
 
   returns : lts.Need-returns Calls At reads.Post Inv-loop μ-loop
   returns c =
-      stopped
-      (c .before .before .before .before .before .before .loop .inv)
-      (c .before .before .before .before .before .loop-test .taken)
-      (judged (c .before .before .before) (c .before .number .given .1))
+      let seen = c .before .before .before in
+      let turn = seen .before .before in
+      stopped (turn .before .loop .inv) (turn .loop-test .taken) (judged seen (c .before .number .given .1))
 
   enum-known-child : lts.Need-enum-known-child Calls At reads.Post Inv-loop μ-loop
   enum-known-child c = search needs
@@ -116,11 +113,16 @@ module _ (t : ℕ) where
   add-e : lts.Need-add-e Calls At reads.Post Inv-loop μ-loop
   add-e c = omega (arith, placed c)
 
-  opens-others-requires : lts.Need-opens-others-requires Calls At reads.Post Inv-loop μ-loop
-  opens-others-requires c κs = search needs
+  first-state-requires : lts.Need-first-state-requires Calls At reads.Post Inv-loop μ-loop
+  first-state-requires c κs = search needs
 
   sub-check-inside : lts.Need-sub-check-inside Calls At reads.Post Inv-loop μ-loop
-  sub-check-inside c = omega (arith, c .before .before .before .before .before .before .before .before .loop .inv)
+  sub-check-inside c =
+      let fresh = c .before in
+      let told = fresh .before in
+      let seen = told .before .before .before in
+      let turn = seen .before .before in
+      omega (arith, turn .before .loop .inv)
 
   sub-check-inside-2 : lts.Need-sub-check-inside-2 Calls At reads.Post Inv-loop μ-loop
   sub-check-inside-2 c = omega arith
@@ -135,75 +137,89 @@ module _ (t : ℕ) where
   add-check-inside c = omega arith
 
   add-check-inside-2 : lts.Need-add-check-inside-2 Calls At reads.Post Inv-loop μ-loop
-  add-check-inside-2 c = omega (arith, c .before .before .before .before .before .before .before .before .before .loop .inv)
+  add-check-inside-2 c =
+      let fresh = c .before .before in
+      let told = fresh .before in
+      let seen = told .before .before .before in
+      let turn = seen .before .before in
+      omega (arith, turn .before .loop .inv)
 
   check-inside-requires : lts.Need-check-inside-requires Calls At reads.Post Inv-loop μ-loop
   check-inside-requires c κs =
-      simp (length-take, length-drop) (omega (arith, placed (c .before .before .before), c .before .before .before .before .before .before .before .before .before .loop .inv))
+      let fresh = c .before .before in
+      let told = fresh .before in
+      let seen = told .before .before .before in
+      let turn = seen .before .before in
+      let low = deeper (turn .before .loop .inv) (turn .loop-test .taken) (judged seen (told .before .child .given .1)) _
+      (fresh .first-state .ensures) (c .before .if1 .taken) in
+      simp (length-take, length-drop) (omega (arith, low, placed told, turn .before .loop .inv))
 
   enum-known-number-2 : lts.Need-enum-known-number-2 Calls At reads.Post Inv-loop μ-loop
   enum-known-number-2 c = search needs
 
   returns-2 : lts.Need-returns-2 Calls At reads.Post Inv-loop μ-loop
   returns-2 c =
-      stopped-inside
-      (c .before .before .before .before .before .before .before .before .before .before .before .before .before .loop .inv)
-      (c .before .before .before .before .before .before .before .before .before .before .before .before .loop-test .taken)
-      (judged (c .before .before .before .before .before .before .before .before .before .before)
-      (c .before .before .before .before .before .before .before .before .child .given .1))
-      (sym (c .before .before .before .before .before .before .opens-others .ensures)
-      ∙ c .before .before .before .before .before .if1 .taken)
+      let fresh = c .before .before .before .before .before .before in
+      let told = fresh .before in
+      let seen = told .before .before .before in
+      let turn = seen .before .before in
+      stopped-inside (turn .before .loop .inv) (turn .loop-test .taken) (judged seen (told .before .child .given .1)) _
+      (fresh .first-state .ensures)
+      (c .before .before .before .before .before .if1 .taken)
       (sym (c .before .number2 .given .1) ∙ (simp minus-plus at (c .before .before .before .check-inside .ensures .0)))
 
   enum-known-m : lts.Need-enum-known-m Calls At reads.Post Inv-loop μ-loop
   enum-known-m c = search needs
 
   add-n : lts.Need-add-n Calls At reads.Post Inv-loop μ-loop
-  add-n c = omega (arith, c .before .before .before .before .before .before .before .before .loop .inv)
+  add-n c =
+      let fresh = c .before in
+      let told = fresh .before in
+      let seen = told .before .before .before in
+      let turn = seen .before .before in
+      omega (arith, turn .before .loop .inv)
 
   loop-less : lts.Need-loop-less Calls At reads.Post Inv-loop μ-loop
   loop-less c = omega (arith, placed (c .before .before .before .before .before .before .before))
 
   loop-again : lts.Need-loop-again Calls At reads.Post Inv-loop μ-loop
   loop-again c =
-      let opens =
-      sym (c .before .before .before .before .before .before .opens-others .ensures)
-      ∙ c .before .before .before .before .before .if1 .taken in
-      let few = simp (length-take, length-drop) at (c .before .before .before .check-inside .ensures .1 _ (c .before .m .given .1)) in
-      on
-      (c .before .before .before .before .before .before .before .before .before .before .before .before .before .loop .inv)
-      (c .before .before .before .before .before .before .before .before .before .before .before .before .loop-test .taken)
-      (judged (c .before .before .before .before .before .before .before .before .before .before)
-      (c .before .before .before .before .before .before .before .before .child .given .1))
-      (rw opens (sym (c .before .m .given .1) ∙ (simp minus-plus at (c .before .before .before .check-inside .ensures .0))))
-      (omega (arith, few, placed (c .before .before .before .before .before .before .before)))
+      let fresh = c .before .before .before .before .before .before in
+      let told = fresh .before in
+      let seen = told .before .before .before in
+      let turn = seen .before .before in
+      let call = c .before .before .before .check-inside in
+      let few = simp (length-take, length-drop) at (call .ensures .1 _ (c .before .m .given .1)) in
+      on-inside (turn .before .loop .inv) (turn .loop-test .taken) (judged seen (told .before .child .given .1)) _
+      (fresh .first-state .ensures)
+      (c .before .before .before .before .before .if1 .taken)
+      (sym (c .before .m .given .1) ∙ (simp minus-plus at (call .ensures .0)))
+      (omega (arith, few, placed told))
 
   loop-less-2 : lts.Need-loop-less-2 Calls At reads.Post Inv-loop μ-loop
   loop-less-2 c = omega (arith, placed (c .before .before))
 
   loop-again-2 : lts.Need-loop-again-2 Calls At reads.Post Inv-loop μ-loop
   loop-again-2 c =
-      let opens = sym (c .before .opens-others .ensures) ∙ c .if1 .left in
-      on
-      (c .before .before .before .before .before .before .before .before .loop .inv)
-      (c .before .before .before .before .before .before .before .loop-test .taken)
-      (judged (c .before .before .before .before .before)
-      (c .before .before .before .child .given .1))
-      (rw opens)
-      (omega (arith, placed (c .before .before), c .before .before .before .before .before .before .before .before .loop .inv))
+      let fresh = c .before in
+      let told = fresh .before in
+      let seen = told .before .before .before in
+      let turn = seen .before .before in
+      on-leaf (turn .before .loop .inv) (turn .loop-test .taken) (judged seen (told .before .child .given .1)) _
+      (fresh .first-state .ensures) (c .if1 .left)
 
   is-complete-requires : lts.Need-is-complete-requires Calls At reads.Post Inv-loop μ-loop
   is-complete-requires c κs = search needs
 
   returns-3 : lts.Need-returns-3 Calls At reads.Post Inv-loop μ-loop
   returns-3 c =
-      finished (c .before .before .before .loop .inv) (c .before .before .loop-test .left) true
-      (sym (c .before .is-complete .ensures) ∙ c .if2 .taken)
+      let past = c .before .before in
+      finished (past .before .loop .inv) (past .loop-test .left) true (sym (c .before .is-complete .ensures) ∙ c .if2 .taken)
 
   returns-4 : lts.Need-returns-4 Calls At reads.Post Inv-loop μ-loop
   returns-4 c =
-      finished (c .before .before .before .loop .inv) (c .before .before .loop-test .left) false
-      (sym (c .before .is-complete .ensures) ∙ c .if2 .left)
+      let past = c .before .before in
+      finished (past .before .loop .inv) (past .loop-test .left) false (sym (c .before .is-complete .ensures) ∙ c .if2 .left)
 
 pub +check-inside-spec : {M : Type 1} → statement M
 +check-inside-spec =
@@ -219,7 +235,7 @@ pub +check-inside-spec : {M : Type 1} → statement M
     (returns t)
     (enum-known-child t)
     (add-e t)
-    (opens-others-requires t)
+    (first-state-requires t)
     (sub-check-inside t)
     (sub-check-inside-2 t)
     (part-check-inside-start t)

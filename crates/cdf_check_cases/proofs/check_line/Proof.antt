@@ -31,4 +31,14 @@ returns-2 : tie.Need-returns-2
 returns-2 c = search needs
 
 pub check-line-spec : {M : Type 1} → statement M
-check-line-spec = tie.close (tie.spec copy-label-requires returns slice-aggregate-read-stream read-stream-requires array-share-prefix-s slice-aggregate-check-stream check-stream-requires returns-2)
+check-line-spec =
+    tie.close
+    (tie.spec
+    copy-label-requires
+    returns
+    slice-aggregate-read-stream
+    read-stream-requires
+    array-share-prefix-s
+    slice-aggregate-check-stream
+    check-stream-requires
+    returns-2)

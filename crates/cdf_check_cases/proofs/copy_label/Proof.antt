@@ -41,4 +41,18 @@ returns-3 : tie.Need-returns-3 Inv-loop μ-loop
 returns-3 c = search needs
 
 pub copy-label-spec : {M : Type 1} → statement M
-copy-label-spec = tie.close (tie.spec Inv-loop μ-loop loop-holds next-byte-requires returns returns-2 slice-aggregate-write-all write-all-requires sub-left loop-less loop-again returns-3)
+copy-label-spec =
+    tie.close
+    (tie.spec
+    Inv-loop
+    μ-loop
+    loop-holds
+    next-byte-requires
+    returns
+    returns-2
+    slice-aggregate-write-all
+    write-all-requires
+    sub-left
+    loop-less
+    loop-again
+    returns-3)

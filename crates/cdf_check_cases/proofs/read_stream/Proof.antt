@@ -44,4 +44,18 @@ returns-2 : tie.Need-returns-2 Inv-loop μ-loop
 returns-2 c = search needs
 
 pub read-stream-spec : {M : Type 1} → statement M
-read-stream-spec = tie.close (tie.spec Inv-loop μ-loop loop-holds next-byte-requires same-length returns put-next-requires sub-left loop-less loop-again same-length-2 returns-2)
+read-stream-spec =
+    tie.close
+    (tie.spec
+    Inv-loop
+    μ-loop
+    loop-holds
+    next-byte-requires
+    same-length
+    returns
+    put-next-requires
+    sub-left
+    loop-less
+    loop-again
+    same-length-2
+    returns-2)

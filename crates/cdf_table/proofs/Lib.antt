@@ -1,0 +1,9 @@
+pub mod Bools
+pub mod Tests
+pub mod Match
+pub mod Tables
+pub mod Parts
+pub mod Rows
+pub mod Heights
+pub mod Others
+pub mod Proved

@@ -1,0 +1,5 @@
+pub mod Ids
+pub mod States
+pub mod Heights
+pub mod Tables
+pub mod Claims

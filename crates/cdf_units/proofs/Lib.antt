@@ -1,0 +1,10 @@
+pub mod Nested
+pub mod StatesListed
+pub mod Closing
+pub mod Entering
+pub mod Agreement
+pub mod Few
+pub mod Fuel
+pub mod Numbered
+pub mod Depth
+pub mod Proved

@@ -1,0 +1,25 @@
+-- The claims of this crate, proved.
+use mathlib.Core.Bool.{true, false}
+use mathlib.Core.Path.{_≡_, refl}
+use Rattle.cdf_units.specs.Units.{listing, listingIn}
+use Rattle.cdf_units.specs.Samples.{samples, allHold}
+use Rattle.cdf_units.specs.Claims.{Claims}
+use Rattle.cdf_units.proofs.Fuel.{finishes}
+use Rattle.cdf_units.proofs.Few.{few}
+use Rattle.cdf_units.proofs.Depth.{shallow}
+use Rattle.cdf_units.proofs.Numbered.{numbered}
+
+samples-hold : allHold samples ≡ true
+unfolding allHold
+samples-hold = refl
+
+pub proved : Claims
+unfolding listing listingIn
+proved = record {
+  samples-hold = samples-hold;
+  finishes = λ l s. finishes l s true 0;
+  finishes-in = λ l state s. finishes l s false state;
+  numbered = λ l s. numbered l s true 0;
+  few = λ l s. few l s true 0;
+  shallow = λ l s k. shallow l s true 0 k;
+}

@@ -1,0 +1,5 @@
+pub mod Units
+pub mod Check
+pub mod Stack
+pub mod Samples
+pub mod Claims
