@@ -1,6 +1,6 @@
 -- Bytes that are stepped over to the end are the encoding of a tree that fits.
 use mathlib.Core.Path.{_≡_, refl, sym, ap, _∙_}
-use mathlib.Core.Bool.{Bool, true, false, cond}
+use mathlib.Core.Bool.{Bool, true, false}
 use mathlib.Core.List.{List, [], _∷_, _++_, append-nil}
 use Prim.Native.Nat.{ℕ, zero, suc, _+_, _-_, _≤_, _<_}
 use native.Mathlib.Omega.{arith}
@@ -8,7 +8,7 @@ use native.Mathlib.Decide.{decLt}
 use lib.ListN.{length, take, drop, length-take, take-append-drop}
 use lib.Seq.{take-take, take-length, drop-drop}
 use Rattle.cdf_prefix.specs.Layout.{Layout, prefixOf}
-use Rattle.cdf_table.specs.States.{opens, nothing, admit, admits, complete, rootKind}
+use Rattle.cdf_table.specs.States.{opens, nothing, admit, complete, rootKind}
 use Rattle.cdf_judge.specs.Judge.{judgeOf}
 use Rattle.cdf_units.specs.Units.{after, ended, Listing, listing}
 use Rattle.cdf_units.specs.Stack.{opened, withState, step, stepsFrom}
@@ -24,9 +24,9 @@ use Rattle.cdf_grammar.proofs.Fits.{through, Fits}
 use Rattle.cdf_table.proofs.Parts.{drop-take}
 use Rattle.cdf_grammar.proofs.Parts.{part-left, part-bytes}
 use Rattle.cdf_grammar.proofs.Written.{textOf, UnitIs, unit-written}
-use Rattle.cdf_table.proofs.Rows.{admits-nested}
-use Rattle.cdf_grammar.proofs.Stepping.{fresh, step-inside, step-closes, steps-on, listing-steps}
-use Rattle.cdf_grammar.proofs.Stepping.{faults, enters, opened-parent, refused-never, spent-never}
+use Rattle.cdf_table.proofs.Rows.{admits-nested, root-kind}
+use Rattle.cdf_units.proofs.Stepping.{fresh, step-inside, step-closes, steps-on, listing-steps}
+use Rattle.cdf_units.proofs.Stepping.{faults, enters, opened-parent, refused-never, spent-never}
 use Rattle.cdf_grammar.proofs.Nesting.{leaves, nest-unit}
 use Rattle.cdf_grammar.proofs.Built.{encode-none, encode-tree}
 
@@ -78,14 +78,6 @@ module _ (l : Layout) (S : List ℕ) where
 abbrev pub Encoded : Layout → List ℕ → Type 0
 Encoded l s =
     (t : Forest) × (id : ℕ) × (ids t ≡ id ∷ []) × (rootKind id ≡ true) × Fits l t × (encode l t ≡ s) × (length s ≤ l .limit)
-
-root-kind : (state id : ℕ) → (admits true state id ≡ 0 → ⊥) → rootKind id ≡ true
-unfolding admits
-root-kind state id some = go (rootKind id) some
-  where
-    go : (b : Bool) → (cond b (nothing id) 0 ≡ 0 → ⊥) → b ≡ true
-    go true some = refl
-    go false some = absurd (some refl)
 
 root-encoded : (l : Layout) (s : List ℕ) (id : ℕ) → rootKind id ≡ true → length s ≤ l .limit → UnitIs l id s → Encoded l s
 unfolding ids

@@ -6,7 +6,7 @@ use mathlib.Core.List.{List, [], _∷_}
 use mathlib.Core.Logic.{inl}
 use native.Mathlib.Omega.{arith}
 use borrow.Author.Tests.{ne-eqb}
-use lib.Dec.{T, eqb}
+use lib.Dec.{eqb}
 use lib.ListN.{getD}
 use Rattle.cdf_table.specs.Ids.{call, template, temporaryKey, relationKey, line}
 use Rattle.cdf_table.specs.States.{statesEnd, complete, admit}

@@ -21,8 +21,8 @@ use Rattle.cdf_grammar.proofs.Fits.{through, through-none, complete-som
 use Rattle.cdf_grammar.proofs.Prefixes.{length-prefix}
 use Rattle.cdf_grammar.proofs.Built.{encode-none, encode-tree, sizeOf, unit-is, length-unit, unit-judged}
 use Rattle.cdf_table.proofs.Rows.{admits-nested, admits-root, root-opens}
-use Rattle.cdf_grammar.proofs.Stepping.{fresh, step-inside, step-closes, steps-end, steps-on}
-use Rattle.cdf_grammar.proofs.Stepping.{listing-steps, enters, opened-parent, opened-leaf}
+use Rattle.cdf_units.proofs.Stepping.{fresh, step-inside, step-closes, steps-end, steps-on}
+use Rattle.cdf_units.proofs.Stepping.{listing-steps, enters, opened-parent, opened-leaf}
 
 -- Where the units nested in a unit with this text stand.
 abbrev innerAt : Layout → ℕ → List ℕ → ℕ

@@ -8,7 +8,9 @@ use lib.ListN.{length, take, drop}
 use lib.Seq.{take-at, drop-drop, drop-append-seam}
 use Rattle.cdf_prefix.specs.Layout.{Layout, prefixOf}
 use Rattle.cdf_table.specs.States.{opens}
+use Rattle.cdf_units.specs.declared.Unit.{Unit}
 use Rattle.cdf_grammar.specs.Trees.{Forest, none, tree, ids}
+use Rattle.cdf_grammar.specs.Published.{Conforms}
 use Rattle.cdf_grammar.specs.Encoding.{prefixBytes, unitBytes, encode, list, Item, itemOf, says}
 use Rattle.cdf_grammar.proofs.Fits.{ownOf, Passes, Fits}
 use Rattle.cdf_table.specs.Heights.{height}
@@ -16,6 +18,7 @@ use Rattle.cdf_table.proofs.Heights.{height-most}
 use Rattle.cdf_grammar.proofs.Heights.{OfHeight, Lower, lower, nested}
 use Rattle.cdf_grammar.proofs.Unique.{leaf-empty, unit-parts}
 use Rattle.cdf_grammar.proofs.Prefixes.{length-prefix}
+use Rattle.cdf_grammar.proofs.Built.{length-unit}
 
 abbrev item : ℕ → ℕ → List ℕ → Item
 item id action text = record { id = id; action = action; text = text }
@@ -108,3 +111,44 @@ listed l s (tree id action text inner rest) at back (p, within, after) e =
 -- The listed units of a tree's bytes say what the tree's units say.
 pub items : (l : Layout) (s : List ℕ) (t : Forest) → Fits l t → encode l t ≡ s → map (itemOf l s) (list l 0 t) ≡ says t
 items l s t fits e = listed l s t 0 [] fits (rw append-nil (sym e))
+
+-- Each of these units has the property.
+abbrev pub EachUnit : (Unit → Type 0) → List Unit → Type 0
+EachUnit P [] = record {}
+EachUnit P (u ∷ us) = P u × EachUnit P us
+
+each-append : (P : Unit → Type 0) (us vs : List Unit) → EachUnit P us → EachUnit P vs → EachUnit P (us ++ vs)
+each-append P [] vs p q = q
+each-append P (u ∷ us) vs p q = (p .0, each-append P us vs (p .1) q)
+
+-- The bytes of a unit are those of one tree, with the unit as its root.
+pub record Rooted (l : Layout) (s : List ℕ) (u : Unit) : Type 0 where
+  pub text : List ℕ
+  pub inner : Forest
+  pub conforms : Conforms (tree (u .id) (u .action) text inner none)
+  pub bytes : encode l (tree (u .id) (u .action) text inner none) ≡ take (u .end - u .start) (drop (u .start) s)
+
+-- So it is of every listed unit of trees that stand at a position.
+pub rooted : (l : Layout) (s : List ℕ) (f : Forest) (at : ℕ) (back : List ℕ) → Conforms f → drop at s ≡ encode l f ++ back →
+    EachUnit (Rooted l s) (list l at f)
+unfolding list
+rooted l s none at back c e = record {}
+rooted l s (tree id action text inner rest) at back (c, within, after) e =
+    let body = at + prefixOf l in
+    let end = body + (length text + length (encode l inner)) in
+    let bytes = unitBytes l id action text (encode l inner) in
+    let own = past-prefix l s at id action text inner rest back e in
+    let nest = past s body text (encode l inner ++ (encode l rest ++ back)) own in
+    let next = past s (body + length text) (encode l inner) (encode l rest ++ back) nest in
+    let same : body + length text + length (encode l inner) ≡ end = omega arith in
+    let size : length bytes ≡ end - at = omega (arith, length-unit l id action text (encode l inner)) in
+    let here : drop at s ≡ bytes ++ (encode l rest ++ back) = e ∙ append-assoc bytes (encode l rest) back in (
+      record {
+        text = text;
+        inner = inner;
+        conforms = (c, within, record {});
+        bytes = rw (here, take-at bytes (encode l rest ++ back) (end - at) size, append-nil);
+      },
+      each-append (Rooted l s) (list l (body + length text) inner) (list l end rest)
+          (rooted l s inner (body + length text) (encode l rest ++ back) within nest) (rooted l s rest end back after (rw same at next)),
+    )

@@ -12,7 +12,6 @@ pub mod Parts
 pub mod Numbers
 pub mod Prefixes
 pub mod Built
-pub mod Stepping
 pub mod Locality
 pub mod Nesting
 pub mod Forward

@@ -24,7 +24,7 @@ use Rattle.cdf_table.proofs.Parts.{Part, left-of}
 use Rattle.cdf_judge.proofs.Placed.{placed}
 use Rattle.cdf_units.proofs.Entering.{unitOf}
 use Rattle.cdf_units.proofs.Agreement.{follows}
-use Rattle.cdf_grammar.proofs.Stepping.{fresh}
+use Rattle.cdf_units.proofs.Stepping.{fresh}
 
 -- The moves, by the offset where the part starts in the whole.
 abbrev pub moved : ℕ → Open → Open

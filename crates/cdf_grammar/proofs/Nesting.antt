@@ -20,7 +20,7 @@ use Rattle.cdf_judge.specs.declared.Judged.{Judged}
 use Rattle.cdf_judge.specs.declared.Judged.the-variants.{Fault, Found}
 use Rattle.cdf_judge.proofs.Placed.{placed}
 use Rattle.cdf_units.proofs.Entering.{after-between, unitOf}
-use Rattle.cdf_grammar.proofs.Stepping.{fresh, step-inside, step-closes, refused-never, spent-never}
+use Rattle.cdf_units.proofs.Stepping.{fresh, step-inside, step-closes, refused-never, spent-never}
 
 -- What closing leaves of a stack with others around it, from what it leaves of the stack alone.
 abbrev pub closeOnward : List Open → ℕ → Closing → Closing

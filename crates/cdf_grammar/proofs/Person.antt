@@ -6,7 +6,7 @@ use native.Mathlib.Omega.{arith}
 use Rattle.cdf_table.specs.Ids.{template, temporaryKey, field}
 use Rattle.cdf_grammar.specs.Content.{end, piece}
 use Rattle.cdf_grammar.specs.Trees.{ids}
-use Rattle.cdf_grammar.specs.Published.{productionOf, Letter, NameByte, Name, InGrammar}
+use Rattle.cdf_grammar.specs.Published.{productionOf, Name, InGrammar}
 use Rattle.cdf_grammar.specs.Example.{person}
 
 -- PERSON and SURNAME, with their counts

@@ -118,3 +118,8 @@ example = record {
 
 pub proved : Claims
 proved = record { streams = of; example = example }
+
+-- The unit list of a stream, in each edition, and that it ends.
+pub stream-listing : (e : Edition) (s : List ℕ) (t : Forest) → Stream (layoutOf e) s t →
+    listing (layoutOf e) s ≡ record { units = list (layoutOf e) 0 t; end = ended }
+stream-listing e = whole (layoutOf e) (roomy e)

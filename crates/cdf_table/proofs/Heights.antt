@@ -3,16 +3,17 @@ use Prim.Native.Nat.{ℕ, zero, suc, _<_}
 use mathlib.Core.Path.{_≡_, refl}
 use mathlib.Core.Bool.{Bool, true, false, not, _&&_, _||_}
 use mathlib.Core.List.{List, [], _∷_}
-use borrow.Author.Tests.{eqb-true, ltb-true}
-use lib.Dec.{T, eqb, ltb, ltb→lt}
+use native.Mathlib.Omega.{arith}
+use borrow.Author.Tests.{eqb-true, ltb-true, leb-true, ne-eqb}
+use lib.Dec.{T, eqb, leb, ltb, ltb→lt}
 use lib.ListN.{getD}
 use Rattle.cdf_table.specs.Ids.{idsEnd}
-use Rattle.cdf_table.specs.States.{Row, rows, admit, admits, unitOf, opens, nothing}
+use Rattle.cdf_table.specs.States.{Row, rows, statesEnd, admit, admits, admitsKind, unitOf, opens, nothing}
 use Rattle.cdf_table.specs.Heights.{heights, height, heightIn}
 use Rattle.cdf_table.proofs.Bools.{both}
-use Rattle.cdf_table.proofs.Tests.{and-left, and-right, is-true, all}
+use Rattle.cdf_table.proofs.Tests.{and-left, and-right, is-true, all, below-at}
 use Rattle.cdf_table.proofs.Match.{else-at}
-use Rattle.cdf_table.proofs.Rows.{from-rows, none-opens}
+use Rattle.cdf_table.proofs.Rows.{from-rows, any-row, none-opens}
 
 -- The height of what a unit of each id admits.
 abbrev levels : List ℕ
@@ -84,3 +85,21 @@ at-any f (x ∷ xs) d t o (suc k) = at-any f xs d (and-right (f x) (all f xs) t)
 pub height-most : (id : ℕ) → height id < 5
 unfolding height
 height-most id = ltb→lt (height id) 5 (at-any (λ n. ltb n 5) heights 0 tt tt id)
+
+-- A kind that a unit admits is lower.
+pub kind-lower : (unit child : ℕ) → admitsKind unit child ≡ true → height child < height unit
+unfolding admitsKind height unitOf
+kind-lower unit child e =
+    any-row (λ r. eqb (unitOf (r .state)) unit && eqb (r .child) child) (λ r. ltb (height (r .child)) (height (unitOf (r .state))))
+    (height child < height unit) rows tt e
+    (λ r t h.
+    let w = both (eqb (unitOf (r .state)) unit) (eqb (r .child) child) h in
+    rw (eqb-true (unitOf (r .state)) unit (w .0), eqb-true (r .child) child (w .1)) at (ltb→lt (height (r .child)) (height (unitOf (r .state))) t))
+
+-- A unit that admits others is above the lowest.
+pub state-high : (state : ℕ) → (leb 1 state && ltb state statesEnd) ≡ true → 0 < heightIn state
+unfolding heightIn height unitOf
+state-high state e =
+    let low = both (leb 1 state) (ltb state statesEnd) e in
+    let t = below-at (λ k. eqb k 0 || ltb 0 (heightIn k)) statesEnd tt state (ltb-true state statesEnd (low .1)) in
+    ltb→lt 0 (heightIn state) (rw (ne-eqb state 0 (λ z. omega (arith, leb-true 1 state (low .0)))) at t)

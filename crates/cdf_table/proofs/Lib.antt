@@ -6,4 +6,5 @@ pub mod Parts
 pub mod Rows
 pub mod Heights
 pub mod Others
+pub mod Skipping
 pub mod Proved

@@ -1,15 +1,18 @@
 -- Rules of the rows and of the parents that a `match` on a state or an id states arm by arm, each proved once by a test that
 -- antt computes over all of them.
 use Prim.Native.Nat.{ℕ, _≤_, _<_}
-use mathlib.Core.Path.{_≡_, refl, sym, subst}
-use mathlib.Core.Bool.{Bool, true, false, not, cond, _&&_, _||_, and-false}
+use mathlib.Core.Path.{_≡_, refl, sym, subst, _∙_}
+use mathlib.Core.Bool.{Bool, true, false, not, cond, _&&_, _||_, and-false, false≢true}
 use mathlib.Core.List.{List, [], _∷_}
-use borrow.Author.Tests.{eq-eqb, ne-eqb, eqb-true, lt-leb}
+use mathlib.Core.Logic.{⊎-elim}
+use borrow.Author.Tests.{eq-eqb, ne-eqb, eqb-true, leb-true, le-leb, lt-leb, ltb-true, ltb-false, lt-ltb}
 use native.Mathlib.Omega.{arith}
 use lib.Dec.{T, eqb, ltb, leb, ltb→lt}
 use Rattle.cdf_table.specs.Ids.{member, stream, erGroup, fileGroup, idsEnd}
-use Rattle.cdf_table.specs.States.{Row, rows, admitFrom, admit, admits, rootKind, Parent, parents, pick, nothing, opens, statesEnd}
-use Rattle.cdf_table.proofs.Tests.{and-left, and-right}
+use Rattle.cdf_table.specs.States.{Row, rows, admitFrom, admit, admits, rootKind, anyRow, admitsKind}
+use Rattle.cdf_table.specs.States.{Parent, parents, pick, nothing, opens, unitOf, statesEnd}
+use Rattle.cdf_table.proofs.Bools.{both, either}
+use Rattle.cdf_table.proofs.Tests.{and-left, and-right, is-true}
 use Rattle.cdf_table.proofs.Match.{Rest, memberOf, differs, each, among}
 use Rattle.cdf_table.proofs.Tables.{upTo, same}
 
@@ -39,6 +42,19 @@ admits-nested s c = refl
 pub admits-root : (s c : ℕ) → rootKind c ≡ true → admits true s c ≡ nothing c
 unfolding admits
 admits-root s c e = rw e
+
+-- What is admitted as a root is of a root's kind,
+pub root-kind : (s c : ℕ) → (admits true s c ≡ 0 → ⊥) → rootKind c ≡ true
+unfolding admits
+root-kind s c some = go (rootKind c) some
+  where
+    go : (b : Bool) → (cond b (nothing c) 0 ≡ 0 → ⊥) → b ≡ true
+    go true some = refl
+    go false some = absurd (some refl)
+
+-- and the state told is its first.
+pub root-first : (s c n : ℕ) → admits true s c ≡ n → (n ≡ 0 → ⊥) → n ≡ nothing c
+root-first s c n e some = sym e ∙ admits-root s c (root-kind s c (λ z. some (sym e ∙ z)))
 
 -- What admission leads to is a state or 0.
 pub admit-below : (s c : ℕ) → admit s c < statesEnd
@@ -133,3 +149,62 @@ opens-by id n e some = rw (← e, ne-eqb n 0 some)
 pub leaf-by : (id n : ℕ) → n ≡ nothing id → n ≡ 0 → opens id ≡ false
 unfolding opens
 leaf-by id n e z = rw (← e, eq-eqb n 0 z)
+
+-- A number past the states is no unit's.
+pub no-unit : (s : ℕ) → statesEnd ≤ s → unitOf s ≡ 0
+unfolding unitOf
+no-unit s h =
+    from-parents (λ n. n ≡ 0) (λ p. ltb (p .last) statesEnd) (λ p. leb (p .first) s && leb s (p .last)) (λ p. p .id) refl
+    (λ p t e. absurd (omega (arith, ltb→lt (p .last) statesEnd t, leb-true s (p .last) (both (leb (p .first) s) _ e .1)))) parents tt
+
+-- No row passes a test that each fails.
+any-none : (f x : Row → Bool) → ((r : Row) → T (x r) → f r ≡ false) → (rs : List Row) → T (allRows x rs) → anyRow f rs ≡ false
+unfolding anyRow
+any-none f x out [] t = refl
+any-none f x out (r ∷ rs) t =
+    rw (out r (and-left (x r) (allRows x rs) t)) (any-none f x out rs (and-right (x r) (allRows x rs) t))
+
+-- What is no unit admits no kind, and no unit admits it.
+pub admits-none : (u v : ℕ) → u ≡ 0 → admitsKind u v ≡ false
+unfolding admitsKind unitOf
+admits-none u v z =
+    any-none (λ r. eqb (unitOf (r .state)) u && eqb (r .child) v) (λ r. ltb 0 (unitOf (r .state)))
+    (λ r t. rw (ne-eqb (unitOf (r .state)) u (λ e. absurd (omega (arith, ltb→lt 0 (unitOf (r .state)) t))))) rows tt
+
+pub none-admits : (u v : ℕ) → v ≡ 0 → admitsKind u v ≡ false
+unfolding admitsKind unitOf
+none-admits u v z =
+    any-none (λ r. eqb (unitOf (r .state)) u && eqb (r .child) v) (λ r. ltb 0 (r .child))
+    (λ r t. rw (ne-eqb (r .child) v (λ e. absurd (omega (arith, ltb→lt 0 (r .child) t))), and-false)) rows tt
+
+-- A row that passes, where one does, has what each row passes.
+pub any-row : (f x : Row → Bool) (P : Type 0) → (rs : List Row) → T (allRows x rs) → anyRow f rs ≡ true →
+    ((r : Row) → T (x r) → f r ≡ true → P) → P
+unfolding anyRow
+any-row f x P [] t e found = absurd (false≢true e)
+any-row f x P (r ∷ rs) t e found =
+    ⊎-elim (λ h. found r (and-left (x r) (allRows x rs) t) h) (λ h. any-row f x P rs (and-right (x r) (allRows x rs) t) h found)
+    (either (f r) (anyRow f rs) e)
+
+-- A number that is some unit's is a state.
+pub unit-state : (s : ℕ) → (unitOf s ≡ 0 → ⊥) → (leb 1 s && ltb s statesEnd) ≡ true
+unfolding unitOf
+unit-state s some = rw (le-leb 1 s (omega (arith, low)), lt-ltb s statesEnd (high (ltb s statesEnd) refl))
+  where
+    low : s ≡ 0 → ⊥
+    low z = some (rw z)
+
+    high : (b : Bool) → ltb s statesEnd ≡ b → s < statesEnd
+    high true e = ltb-true s statesEnd e
+    high false e = absurd (some (no-unit s (ltb-false s statesEnd e)))
+
+-- What a unit admits in some state is of a kind that it admits.
+rows-kinds : T (allRows (λ r. admitsKind (unitOf (r .state)) (r .child)) rows)
+unfolding admitsKind unitOf
+rows-kinds = tt
+
+pub admit-kind : (s c : ℕ) → (admits false s c ≡ 0 → ⊥) → admitsKind (unitOf s) c ≡ true
+unfolding admits
+admit-kind s c some =
+    from-rows (λ n. (n ≡ 0 → ⊥) → admitsKind (unitOf s) c ≡ true) (λ r. admitsKind (unitOf (r .state)) (r .child)) s c
+    (λ no. absurd (no refl)) (λ r t d e no. rw (d, e) at (is-true (admitsKind (unitOf (r .state)) (r .child)) t)) rows rows-kinds some

@@ -3,7 +3,7 @@ ghost use mathlib.Core.Path.{_≡_};
 ghost use mathlib.Core.Bool.{_&&_, cond};
 ghost use lib.Dec.{leb};
 ghost use Rattle.cdf_table.specs.Ids.{known, actionAllowed, temporaryKey, templateKey, entityKey, relationKey};
-ghost use Rattle.cdf_table.specs.States.{admit, rootKind, nothing, complete};
+ghost use Rattle.cdf_table.specs.States.{admit, rootKind, nothing, skipped, complete};
 
 // The ids.
 pub const STREAM: usize = 1;
@@ -144,6 +144,40 @@ pub fn first_state(id: usize) -> usize
         FILE_GROUP => FILE_NEW,
         _ => 0,
     }
+}
+
+// The state of the same unit in which it was skipped; 0 for a number that is no state.
+pub fn skipped_state(state: usize) -> usize
+    ensures { λ r. ⌜ r ≡ skipped state ⌝ }
+{
+    if state < STREAM_NEW {
+        return 0;
+    }
+    if state <= STREAM_SKIPPED {
+        return STREAM_SKIPPED;
+    }
+    if state <= ER_SKIPPED {
+        return ER_SKIPPED;
+    }
+    if state <= FILE_SKIPPED {
+        return FILE_SKIPPED;
+    }
+    if state <= CALL_SKIPPED {
+        return CALL_SKIPPED;
+    }
+    if state <= TEMPLATE_SKIPPED {
+        return TEMPLATE_SKIPPED;
+    }
+    if state <= RELATION_SKIPPED {
+        return RELATION_SKIPPED;
+    }
+    if state <= ORDERED_SKIPPED {
+        return ORDERED_SKIPPED;
+    }
+    if state <= ENTITY_SKIPPED {
+        return ENTITY_SKIPPED;
+    }
+    0
 }
 
 // The states in which a unit is complete, a bit for each.

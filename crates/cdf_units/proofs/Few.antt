@@ -21,12 +21,12 @@ use Rattle.cdf_units.proofs.Agreement.{follows}
 
 module _ (l : Layout) (s : List ℕ) where
   -- The next position is a prefix further at least, and not past the end.
-  abbrev Further : ℕ → Step → Type 0
+  abbrev pub Further : ℕ → Step → Type 0
   Further pos done = record {}
   Further pos (refused n at) = record {}
   Further pos (found u os later) = (pos + prefixOf l ≤ later) × (later ≤ length s)
 
-  unit-further : (pos : ℕ) (root : Bool) (state : ℕ) (t : List ℕ) (around : ℕ → List Open) → length t ≤ length s - pos →
+  pub unit-further : (pos : ℕ) (root : Bool) (state : ℕ) (t : List ℕ) (around : ℕ → List Open) → length t ≤ length s - pos →
       Further pos (entered pos around (judgeOf l root state t))
   unfolding entered
   unit-further pos root state t around h = go (judgeOf l root state t) refl
@@ -38,7 +38,7 @@ module _ (l : Layout) (s : List ℕ) where
           let between = after-between (unitOf pos id action own len) (omega arith) in
           omega arith
 
-  step-further : (pos : ℕ) (os : List Open) → Further pos (step l s os pos)
+  pub step-further : (pos : ℕ) (os : List Open) → Further pos (step l s os pos)
   unfolding step stepIn
   step-further pos os = go (close os pos)
     where

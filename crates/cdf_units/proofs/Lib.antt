@@ -7,4 +7,5 @@ pub mod Few
 pub mod Fuel
 pub mod Numbered
 pub mod Depth
+pub mod Stepping
 pub mod Proved

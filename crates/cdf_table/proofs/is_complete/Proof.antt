@@ -1,6 +1,6 @@
 -- Below 32 by computation; from there on both sides are false.
 use Prim.Native.Nat.{_/_, _%_, _^_}
-use mathlib.Core.Path.{sym, _∙_}
+use mathlib.Core.Path.{sym}
 use mathlib.Core.Bool.{_&&_}
 use borrow.Author.Needs.{needs}
 use borrow.Author.Tests.{le-ltb}

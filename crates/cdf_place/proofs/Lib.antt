@@ -1,0 +1,6 @@
+pub mod Nesting
+pub mod Fitting
+pub mod Opened
+pub mod Suffix
+pub mod Replying
+pub mod Proved

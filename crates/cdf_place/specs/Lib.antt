@@ -1,0 +1,6 @@
+pub mod Place
+pub mod Calls
+pub mod Slots
+pub mod Tests
+pub mod NearMisses
+pub mod Claims

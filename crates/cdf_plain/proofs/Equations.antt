@@ -1,0 +1,120 @@
+-- The two readers' calls and runs, call by call. To unfold them would unfold the judge and the rows too, so these equations stand
+-- for that.
+use Prim.Native.Nat.{ℕ, _-_}
+use mathlib.Core.Path.{_≡_, refl}
+use mathlib.Core.Bool.{Bool, false, cond, _&&_}
+use mathlib.Core.List.{List, [], _∷_}
+use Rattle.cdf_table.specs.States.{opens}
+use Rattle.cdf_prefix.specs.Layout.{Layout}
+use Rattle.cdf_units.specs.declared.Unit.{Unit}
+use Rattle.cdf_place.specs.Place.{ReaderPlace}
+use Rattle.cdf_place.specs.Calls.{Reply, Part, noUnit, isGroup, firstOf, nextOf, skipOf, takeOf, partOf, previousOf}
+use Rattle.cdf_plain.specs.Calls.{Call, start, next, skip, getStream, previous, Told, noPart, handing, saying}
+use Rattle.cdf_plain.specs.Plain.{State, Turn, handOut, followers, answerAt, answerFrom, answer}
+use Rattle.cdf_plain.specs.Runs.{callOf, partTaken, tells, readerRun, placeAfter, plainRun, stateAfter}
+
+-- What is told of a reply and a part.
+abbrev pub telling : Reply → Part → Told
+telling r part = record { number = r .number; offset = r .offset; part = part; unit = r .unit }
+
+-- A turn of the plain reader by its parts.
+abbrev pub turn : Told → List Unit → Bool → Turn
+turn told units fresh = record { told = told; state = record { units = units; fresh = fresh } }
+
+-- What passes a unit where that may be done, with the part taken.
+abbrev pub pass : Bool → Part → List Unit → Bool → Turn
+pass may part units fresh =
+    cond may (turn (record { number = 0; offset = 0; part = part; unit = noUnit }) units false) (turn (saying 11) units fresh)
+
+-- A call of both readers: the reply, the part taken, and what the plain reader does.
+pub record Made (l : Layout) (s : List ℕ) (p : ReaderPlace) (all : List Unit) (st : State) (c : Call) (r : Reply) (part : Part) (t : Turn)
+    : Type 0 where
+  pub reply : callOf l s p c ≡ r
+  pub taken : partTaken l s p c ≡ part
+  pub turned : answer all st c ≡ t
+
+module _ (l : Layout) (s : List ℕ) (p : ReaderPlace) (all : List Unit) where
+  -- A start may be made in any state.
+  pub start-made : (st : State) → Made l s p all st start (firstOf l s) noPart (handOut st all)
+  unfolding callOf partTaken answer
+  start-made st = record { reply = refl; taken = refl; turned = go (st .units) }
+    where
+      go : (us : List Unit) →
+          answer all (record { units = us; fresh = st .fresh }) start ≡ handOut (record { units = us; fresh = st .fresh }) all
+      go [] = refl
+      go (u ∷ us) = refl
+
+  module _ (u : Unit) (us : List Unit) (fresh : Bool) where
+    -- The state at a unit, and what each call does there.
+    abbrev now : State
+    now = record { units = u ∷ us; fresh = fresh }
+
+    pub next-made : Made l s p all now next (nextOf l s p) noPart (handOut now (followers all u us fresh))
+    unfolding callOf partTaken answer
+    next-made = record { reply = refl; taken = refl; turned = refl }
+
+    pub skip-made : Made l s p all now skip (skipOf l s p) noPart (pass (fresh && opens (u .id)) noPart (u ∷ us) fresh)
+    unfolding callOf partTaken answer
+    skip-made = record { reply = refl; taken = refl; turned = refl }
+
+    pub take-made : Made l s p all now getStream (takeOf l s p) (partOf l s p)
+        (pass (fresh && isGroup (u .id)) (record { start = u .start; size = u .end - u .start }) (u ∷ us) fresh)
+    unfolding callOf partTaken answer
+    take-made = record { reply = refl; taken = refl; turned = refl }
+
+    pub previous-made : Made l s p all now previous (previousOf l s p) noPart (turn (handing u) (u ∷ us) fresh)
+    unfolding callOf partTaken answer
+    previous-made = record { reply = refl; taken = refl; turned = refl }
+
+-- A run of no call, and of one more.
+module _ (l : Layout) (s : List ℕ) (p : ReaderPlace) where
+  pub reader-none : readerRun l s p [] ≡ []
+  unfolding readerRun
+  reader-none = refl
+
+  pub place-none : placeAfter l s p [] ≡ p
+  unfolding placeAfter
+  place-none = refl
+
+  module _ (c : Call) (cs : List Call) where
+    pub reader-on : readerRun l s p (c ∷ cs) ≡ telling (callOf l s p c) (partTaken l s p c) ∷ readerRun l s (callOf l s p c .place) cs
+    unfolding readerRun
+    reader-on = refl
+
+    pub place-on : placeAfter l s p (c ∷ cs) ≡ placeAfter l s (callOf l s p c .place) cs
+    unfolding placeAfter
+    place-on = refl
+
+module _ (all : List Unit) (st : State) where
+  pub plain-none : plainRun all st [] ≡ []
+  unfolding plainRun
+  plain-none = refl
+
+  pub state-none : stateAfter all st [] ≡ st
+  unfolding stateAfter
+  state-none = refl
+
+  module _ (c : Call) (cs : List Call) where
+    pub plain-on : plainRun all st (c ∷ cs) ≡ answer all st c .told ∷ plainRun all (answer all st c .state) cs
+    unfolding plainRun
+    plain-on = refl
+
+    pub state-on : stateAfter all st (c ∷ cs) ≡ stateAfter all (answer all st c .state) cs
+    unfolding stateAfter
+    state-on = refl
+
+-- A next of the plain reader at a unit.
+pub next-plain : (all : List Unit) (u : Unit) (us : List Unit) (fresh : Bool) →
+    answer all (record { units = u ∷ us; fresh = fresh }) next .told
+    ≡ handOut (record { units = u ∷ us; fresh = fresh }) (followers all u us fresh) .told
+unfolding answer answerFrom answerAt
+next-plain all u us fresh = refl
+
+-- What the reader tells of a call, and of a next.
+pub tells-is : (l : Layout) (s : List ℕ) (p : ReaderPlace) (c : Call) → tells l s p c ≡ telling (callOf l s p c) (partTaken l s p c)
+unfolding tells
+tells-is l s p c = refl
+
+pub next-number : (l : Layout) (s : List ℕ) (p : ReaderPlace) → tells l s p next .number ≡ nextOf l s p .number
+unfolding tells callOf
+next-number l s p = refl

@@ -1,0 +1,9 @@
+pub mod Skipped
+pub mod Passing
+pub mod Later
+pub mod Equations
+pub mod Answers
+pub mod Numbers
+pub mod Streams
+pub mod Reading
+pub mod Proved

@@ -1,0 +1,62 @@
+-- Runs of the two readers over a list of calls. Each call of the reader but a start is given the place that the last one returned.
+use Prim.Native.Nat.{ℕ}
+use mathlib.Core.Bool.{false}
+use mathlib.Core.List.{List, [], _∷_}
+use Rattle.cdf_prefix.specs.Layout.{Layout}
+use Rattle.cdf_units.specs.declared.Unit.{Unit}
+use Rattle.cdf_place.specs.Place.{ReaderPlace}
+use Rattle.cdf_place.specs.Calls.{Reply, firstOf, nextOf, skipOf, takeOf, Part, partOf, previousOf}
+use Rattle.cdf_plain.specs.Calls.{Call, start, next, skip, getStream, previous, Told, noPart}
+use Rattle.cdf_plain.specs.Plain.{State, answer}
+
+unfoldable pub callOf : Layout → List ℕ → ReaderPlace → Call → Reply
+unfolding firstOf nextOf skipOf takeOf previousOf
+callOf l s p start = firstOf l s
+callOf l s p next = nextOf l s p
+callOf l s p skip = skipOf l s p
+callOf l s p getStream = takeOf l s p
+callOf l s p previous = previousOf l s p
+
+-- Only GET_STREAM takes a part.
+unfoldable pub partTaken : Layout → List ℕ → ReaderPlace → Call → Part
+unfolding partOf
+partTaken l s p start = noPart
+partTaken l s p next = noPart
+partTaken l s p skip = noPart
+partTaken l s p getStream = partOf l s p
+partTaken l s p previous = noPart
+
+-- What the reader tells of a call.
+unfoldable pub tells : Layout → List ℕ → ReaderPlace → Call → Told
+unfolding callOf partTaken
+tells l s p c = record {
+  number = callOf l s p c .number;
+  offset = callOf l s p c .offset;
+  part = partTaken l s p c;
+  unit = callOf l s p c .unit;
+}
+
+unfoldable pub readerRun : Layout → List ℕ → ReaderPlace → List Call → List Told
+unfolding tells callOf
+readerRun l s p [] = []
+readerRun l s p (c ∷ cs) = tells l s p c ∷ readerRun l s (callOf l s p c .place) cs
+
+-- The place after the calls.
+unfoldable pub placeAfter : Layout → List ℕ → ReaderPlace → List Call → ReaderPlace
+unfolding callOf
+placeAfter l s p [] = p
+placeAfter l s p (c ∷ cs) = placeAfter l s (callOf l s p c .place) cs
+
+unfoldable pub plainRun : List Unit → State → List Call → List Told
+unfolding answer
+plainRun all st [] = []
+plainRun all st (c ∷ cs) = answer all st c .told ∷ plainRun all (answer all st c .state) cs
+
+unfoldable pub stateAfter : List Unit → State → List Call → State
+unfolding answer
+stateAfter all st [] = st
+stateAfter all st (c ∷ cs) = stateAfter all (answer all st c .state) cs
+
+-- Before a start.
+abbrev pub noState : State
+noState = record { units = []; fresh = false }

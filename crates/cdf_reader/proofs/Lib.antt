@@ -1,0 +1,6 @@
+pub mod Closings
+pub mod Entered
+pub mod Stepped
+pub mod Replies
+pub mod Passing
+pub mod Proved

@@ -1,0 +1,71 @@
+-- Passing the last unit whole, by the parts of the struct.
+use Prim.Native.Nat.{ℕ, zero, suc, _-_, _≤_}
+use mathlib.Core.Path.{_≡_, refl}
+use mathlib.Core.Bool.{Bool, true, false, not, cond, _&&_}
+use mathlib.Core.List.{List}
+use native.Mathlib.Omega.{arith}
+use borrow.Author.Tests.{eq-eqb, ne-eqb}
+use lib.Dec.{eqb}
+use lib.ListN.{length}
+use Rattle.cdf_table.specs.States.{nothing, skipped, opens}
+use Rattle.cdf_prefix.specs.Layout.{Layout}
+use Rattle.cdf_units.specs.Stack.{withState}
+use Rattle.cdf_units.specs.declared.Open.{Open}
+use Rattle.cdf_place.specs.Place.{ReaderPlace, fits}
+use Rattle.cdf_place.specs.Calls.{refuse, untouched, skippedTop, passed, passing, isGroup, takeOf, partOf}
+use Rattle.cdf_place.proofs.Fitting.{fitting}
+use Rattle.cdf_place.proofs.Replying.{passing-tests, take-is, part-is}
+use Rattle.cdf_place.specs.Slots.{openUnits, placeOf}
+use Rattle.cdf_reader.specs.View.{view}
+use Rattle.cdf_reader.specs.declared.Place.{Place}
+use Rattle.cdf_reader.proofs.Replies.{empty-is}
+
+pub untouched-is : (p : Place) → untouched (view p) ≡ (not (eqb (p .count) 0) && (p .fresh && not (eqb (nothing (p .last .id)) 0)))
+unfolding untouched opens
+untouched-is p = rw (empty-is p)
+
+skipped-top : (count : ℕ) (top o1 o2 o3 : Open) →
+    skippedTop (openUnits count top o1 o2 o3) ≡ openUnits count (withState top (skipped (top .state))) o1 o2 o3
+unfolding skippedTop openUnits
+skipped-top zero top o1 o2 o3 = refl
+skipped-top (suc k) top o1 o2 o3 = refl
+
+-- The place past the last unit.
+pub passed-is : (p : Place) →
+    passed (view p)
+    ≡ placeOf (p .last .end) (p .count) (withState (p .top) (skipped (p .top .state))) (p .o1) (p .o2) (p .o3) (p .last) false
+unfolding passed
+passed-is p = rw (skipped-top (p .count) (p .top) (p .o1) (p .o2) (p .o3))
+
+module _ (l : Layout) (s : List ℕ) (v : ReaderPlace) where
+  pub pass-not : (may : Bool) → may ≡ false → passing l s v may ≡ refuse 11 0 v
+  pass-not may e = rw (passing-tests l s, e)
+
+  pub pass-unfit : (may : Bool) → may ≡ true → fits l (length s) v ≡ false → passing l s v may ≡ refuse 2 0 v
+  pass-unfit may e f = rw (passing-tests l s, e, f)
+
+  pub pass-on : (may : Bool) → may ≡ true → fits l (length s) v ≡ true → passing l s v may ≡ refuse 0 0 (passed v)
+  pass-on may e f = rw (passing-tests l s, e, f)
+
+  -- Only a place that fits is passed.
+  pub passing-fits : (may : Bool) → passing l s v may .number ≡ 0 → fits l (length s) v ≡ true
+  unfolding passing
+  passing-fits true e = go (fits l (length s) v) refl e
+    where
+      go : (b : Bool) → fits l (length s) v ≡ b → cond (not b) (refuse 2 0 v) (refuse 0 0 (passed v)) .number ≡ 0 → b ≡ true
+      go true f e = refl
+      go false f e = absurd (omega arith)
+  passing-fits false e = absurd (omega arith)
+
+  -- The part that GET_STREAM takes.
+  pub part-none : (takeOf l s v .number ≡ 0 → ⊥) → partOf l s v ≡ record { start = 0; size = 0 }
+  part-none other = rw (part-is l s, ne-eqb (takeOf l s v .number) 0 other)
+
+  pub part-some : takeOf l s v .number ≡ 0 → partOf l s v ≡ record { start = v .last .start; size = v .last .end - v .last .start }
+  part-some e = rw (part-is l s, eq-eqb (takeOf l s v .number) 0 e)
+
+  -- It lies in the bytes.
+  pub part-within : takeOf l s v .number ≡ 0 → (v .last .start ≤ v .last .end) × (v .last .end ≤ length s)
+  part-within e =
+      let f = fitting l (length s) v (passing-fits (untouched v && isGroup (v .last .id)) (rw take-is at e)) in
+      omega (arith, f .own, f .end, f .within)

@@ -1,0 +1,4 @@
+pub mod View
+pub mod Left
+pub mod Words
+pub mod Claims

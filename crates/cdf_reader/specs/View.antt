@@ -1,0 +1,34 @@
+-- Which place of document 01 a struct is, and which reply an answer; the struct and the answer that hold only zeros.
+use Prim.Native.Nat.{ℕ}
+use mathlib.Core.Bool.{false}
+use mathlib.Core.List.{List}
+use lib.ListN.{take, drop}
+use Rattle.cdf_prefix.specs.Layout.{layoutOf}
+use Rattle.cdf_prefix.specs.declared.Edition.the-variants.{First}
+use Rattle.cdf_place.specs.Place.{ReaderPlace}
+use Rattle.cdf_place.specs.Calls.{Reply, Part, noUnit, partOf}
+use Rattle.cdf_place.specs.Slots.{noOpen, placeOf}
+use Rattle.cdf_reader.specs.declared.Place.{Place}
+use Rattle.cdf_reader.specs.declared.Answer.{Answer}
+
+abbrev pub view : Place → ReaderPlace
+view p = placeOf (p .position) (p .count) (p .top) (p .o1) (p .o2) (p .o3) (p .last) (p .fresh)
+
+abbrev pub replyOf : Answer → Reply
+replyOf a = record { number = a .number; offset = a .offset; unit = a .unit; place = view (a .place) }
+
+-- The part of the bytes that GET_STREAM lends from a place, and the bytes of a part.
+abbrev pub partAt : Place → List ℕ → Part
+partAt p s = partOf (layoutOf First) s (view p)
+
+abbrev pub bytesOf : Part → List ℕ → List ℕ
+bytesOf part s = take (part .size) (drop (part .start) s)
+
+-- The empty place that a refused start and ABNORMAL_END return.
+abbrev pub noPlace : Place
+noPlace =
+    record { position = 0; count = 0; top = noOpen; o1 = noOpen; o2 = noOpen; o3 = noOpen; last = noUnit; fresh = false }
+
+-- An answer that hands out no unit.
+abbrev pub refusal : ℕ → ℕ → Place → Answer
+refusal number offset place = record { number = number; offset = offset; unit = noUnit; place = place }

@@ -1,0 +1,35 @@
+-- Places and structs whose numbers a field can hold.
+use Prim.Native.Nat.{ℕ, _<_}
+use mathlib.Core.List.{List, [], _∷_}
+use Rattle.cdf_units.specs.declared.Unit.{Unit}
+use Rattle.cdf_units.specs.declared.Open.{Open}
+use Rattle.cdf_place.specs.Place.{ReaderPlace}
+use Rattle.cdf_reader.specs.declared.Place.{Place}
+
+-- Numbers that a field of the struct can hold: below 2^64.
+abbrev pub Word : ℕ → Type 0
+Word n = n < 18446744073709551616
+
+abbrev pub UnitWords : Unit → Type 0
+UnitWords u = Word (u .id) × Word (u .action) × Word (u .start) × Word (u .own) × Word (u .end)
+
+abbrev pub OpenWords : Open → Type 0
+OpenWords o = Word (o .state) × Word (o .start) × Word (o .end)
+
+abbrev pub AllWords : List Open → Type 0
+AllWords [] = record {}
+AllWords (o ∷ os) = OpenWords o × AllWords os
+
+pub record PlaceWords (p : ReaderPlace) : Type 0 where
+  pub position : Word (p .position)
+  pub units : AllWords (p .units)
+  pub last : UnitWords (p .last)
+
+pub record StructWords (q : Place) : Type 0 where
+  pub position : Word (q .position)
+  pub count : Word (q .count)
+  pub top : OpenWords (q .top)
+  pub o1 : OpenWords (q .o1)
+  pub o2 : OpenWords (q .o2)
+  pub o3 : OpenWords (q .o3)
+  pub last : UnitWords (q .last)

@@ -1,0 +1,507 @@
+// The reader: a place goes in with each call and a new one comes back.
+ghost use mathlib.Core.Path.{_≡_};
+ghost use mathlib.Core.Bool.{true};
+ghost use Prim.Native.Nat.{_+_, _≤_};
+ghost use denote.Ref.{ptr};
+ghost use lib.ListN.{length};
+ghost use Rattle.cdf_table.specs.States.{opens};
+ghost use Rattle.cdf_units.specs.Stack.{found, opened, step};
+ghost use Rattle.cdf_units.specs.Units.{after};
+ghost use Rattle.cdf_prefix.specs.Layout.{layoutOf};
+ghost use Rattle.cdf_prefix.specs.declared.Edition.the-variants.{First};
+ghost use Rattle.cdf_place.specs.Place.{fits};
+ghost use Rattle.cdf_place.specs.Calls.{noUnit, stepped, firstOf, nextOf, untouched, passing, skipOf, takeOf, previousOf, abnormalEnd};
+ghost use Rattle.cdf_place.specs.Slots.{noOpen, openUnits};
+ghost use Rattle.cdf_reader.specs.View.{view, replyOf, partAt, bytesOf, noPlace, refusal};
+ghost use Rattle.cdf_reader.specs.Left.{outside, leftIn, Closed};
+use cdf_fit::fits;
+use cdf_judge::Judged;
+use cdf_judge::judge;
+use cdf_judge::judge_root;
+use cdf_prefix::Edition;
+use cdf_table::ER_GROUP;
+use cdf_table::FILE_GROUP;
+use cdf_table::first_state;
+use cdf_table::is_complete;
+use cdf_table::skipped_state;
+use cdf_units::Open;
+use cdf_units::Unit;
+
+// Where a reader is: the position; how many units are open, `top` the innermost of them and `o1` to `o3` those around it, from the
+// outermost inwards; the last unit handed out, and whether that one may still be skipped. Which place of the format this is, its
+// view says: units that the count does not reach do not matter.
+pub struct Place {
+    pub position: usize,
+    pub count: usize,
+    pub top: Open,
+    pub o1: Open,
+    pub o2: Open,
+    pub o3: Open,
+    pub last: Unit,
+    pub fresh: bool,
+}
+
+// What a call answers: the number and its offset, the unit handed out (zeros beside a number other than 0) and the new place.
+pub struct Answer {
+    pub number: usize,
+    pub offset: usize,
+    pub unit: Unit,
+    pub place: Place,
+}
+
+// The open units that closing leaves: how many, and the innermost.
+struct Left {
+    count: usize,
+    top: Open,
+}
+
+fn no_unit() -> Unit
+    ensures { λ r. ⌜ r ≡ noUnit ⌝ }
+{
+    Unit {
+        id: 0,
+        action: 0,
+        start: 0,
+        own: 0,
+        end: 0,
+    }
+}
+
+fn no_open() -> Open
+    ensures { λ r. ⌜ r ≡ noOpen ⌝ }
+{
+    Open {
+        state: 0,
+        start: 0,
+        end: 0,
+    }
+}
+
+// The empty place, all zeros.
+fn no_place() -> Place
+    ensures { λ r. ⌜ r ≡ noPlace ⌝ }
+{
+    let o = no_open();
+    let u = no_unit();
+    Place {
+        position: 0,
+        count: 0,
+        top: o,
+        o1: o,
+        o2: o,
+        o3: o,
+        last: u,
+        fresh: false,
+    }
+}
+
+fn refused(number: usize, offset: usize, place: Place) -> Answer
+    ensures { λ r. ⌜ r ≡ refusal number offset place ⌝ }
+{
+    let unit = no_unit();
+    Answer {
+        number,
+        offset,
+        unit,
+        place,
+    }
+}
+
+// The unit around the innermost of so many, two to four.
+fn around(count: usize, o1: Open, o2: Open, o3: Open) -> Open
+    ensures { λ r. ⌜ r ≡ outside count o1 o2 o3 ⌝ }
+{
+    if count == 2 {
+        return o1;
+    }
+    if count == 3 {
+        return o2;
+    }
+    o3
+}
+
+// Closes the complete units that end at the position, innermost first.
+fn close(position: usize, count: usize, top: Open, o1: Open, o2: Open, o3: Open) -> Left
+    requires { ⌜ count ≤ 4 ⌝ }
+    ensures { λ r. ⌜ Closed position (openUnits count top o1 o2 o3) o1 o2 o3 (r .count) (r .top) ⌝ }
+{
+    let mut left = count;
+    let mut inner = top;
+    while 0 < left {
+        if inner.end != position {
+            return Left {
+                count: left,
+                top: inner,
+            };
+        }
+        if !is_complete(inner.state) {
+            return Left {
+                count: left,
+                top: inner,
+            };
+        }
+        inner = around(left, o1, o2, o3);
+        left = left - 1;
+    }
+    Left {
+        count: left,
+        top: inner,
+    }
+}
+
+// The answer that hands out a unit in the innermost of the units left open, which is then in this state. A unit that admits others
+// is opened.
+fn enter(p: Place, left: Left, unit: Unit, state: usize) -> Answer
+    requires { ⌜ (1 ≤ left .count) × (left .count ≤ 4) × (opens (unit .id) ≡ true → left .count ≤ 3) ⌝ }
+    ensures { λ r. ⌜ replyOf r ≡ stepped (view p) (found unit (opened unit (leftIn p (left .count) (left .top) state)) (after unit)) ⌝ }
+{
+    let count = left.count;
+    let outer = Open {
+        state,
+        start: left.top.start,
+        end: left.top.end,
+    };
+    let o1 = p.o1;
+    let o2 = p.o2;
+    let o3 = p.o3;
+    let first = first_state(unit.id);
+    if first == 0 {
+        let place = Place {
+            position: unit.end,
+            count,
+            top: outer,
+            o1,
+            o2,
+            o3,
+            last: unit,
+            fresh: false,
+        };
+        return Answer {
+            number: 0,
+            offset: 0,
+            unit,
+            place,
+        };
+    }
+    let inner = Open {
+        state: first,
+        start: unit.start,
+        end: unit.end,
+    };
+    if count == 1 {
+        let place = Place {
+            position: unit.own,
+            count: 2,
+            top: inner,
+            o1: outer,
+            o2,
+            o3,
+            last: unit,
+            fresh: true,
+        };
+        return Answer {
+            number: 0,
+            offset: 0,
+            unit,
+            place,
+        };
+    }
+    if count == 2 {
+        let place = Place {
+            position: unit.own,
+            count: 3,
+            top: inner,
+            o1,
+            o2: outer,
+            o3,
+            last: unit,
+            fresh: true,
+        };
+        return Answer {
+            number: 0,
+            offset: 0,
+            unit,
+            place,
+        };
+    }
+    let place = Place {
+        position: unit.own,
+        count: 4,
+        top: inner,
+        o1,
+        o2,
+        o3: outer,
+        last: unit,
+        fresh: true,
+    };
+    Answer {
+        number: 0,
+        offset: 0,
+        unit,
+        place,
+    }
+}
+
+impl Place {
+    // Whether the place could belong to n bytes.
+    fn is_fit(self, edition: Edition, n: usize) -> bool
+        ensures { λ r. ⌜ r ≡ fits (layoutOf edition) n (view self) ⌝ }
+    {
+        let top = self.top;
+        let o1 = self.o1;
+        let o2 = self.o2;
+        let o3 = self.o3;
+        let last = self.last;
+        fits(
+            edition,
+            n,
+            self.position,
+            self.count,
+            top,
+            o1,
+            o2,
+            o3,
+            last,
+            self.fresh,
+        )
+    }
+
+    // What NEXT does with a place that fits.
+    fn step(self, edition: Edition, s: &[u8]) -> Answer
+        requires { ⌜ fits (layoutOf edition) (length (now s)) (view self) ≡ true ⌝ }
+        ensures is { λ r. ⌜ replyOf r ≡ stepped (view self) (step (layoutOf edition) (now (s .entry)) (view self .units) (self .position)) ⌝ }
+        ensures kept { λ r. ⌜ ((r .number ≡ 0 → ⊥) → r .place ≡ self) ⌝ }
+    {
+        let top = self.top;
+        let o1 = self.o1;
+        let o2 = self.o2;
+        let o3 = self.o3;
+        let at = self.position;
+        let left = close(at, self.count, top, o1, o2, o3);
+        if left.count == 0 {
+            return refused(1, 0, self);
+        }
+        let stop = left.top.end;
+        if stop == at {
+            return refused(10, left.top.start, self);
+        }
+        match judge(edition, left.top.state, &s[at..stop]) {
+            Judged::Fault { number, offset } => {
+                let place = at + offset;
+                refused(number, place, self)
+            }
+            Judged::Found {
+                id,
+                action,
+                own,
+                length,
+                state,
+            } => {
+                let own_end = at + own;
+                let end = at + length;
+                let unit = Unit {
+                    id,
+                    action,
+                    start: at,
+                    own: own_end,
+                    end,
+                };
+                enter(self, left, unit, state)
+            }
+        }
+    }
+
+    // The next unit: closes what ends here, then reads the unit at the position. Numbers 11, 2, 10, 1 and 3 to 9.
+    pub(crate) fn next_as(self, edition: Edition, s: &[u8]) -> Answer
+        ensures is { λ r. ⌜ replyOf r ≡ nextOf (layoutOf edition) (now (s .entry)) (view self) ⌝ }
+        ensures kept { λ r. ⌜ ((r .number ≡ 0 → ⊥) → r .place ≡ self) ⌝ }
+    {
+        if self.count == 0 {
+            return refused(11, 0, self);
+        }
+        let n = s.len();
+        if !self.is_fit(edition, n) {
+            return refused(2, 0, self);
+        }
+        self.step(edition, s)
+    }
+
+    // NEXT, for streams of the first edition.
+    pub fn next(self, s: &[u8]) -> Answer
+        ensures is { λ r. ⌜ replyOf r ≡ nextOf (layoutOf First) (now (s .entry)) (view self) ⌝ }
+        ensures kept { λ r. ⌜ ((r .number ≡ 0 → ⊥) → r .place ≡ self) ⌝ }
+    {
+        self.next_as(Edition::First, s)
+    }
+
+    // Passes the last unit whole, if it may be: 11, then 2.
+    fn pass_as(self, edition: Edition, s: &[u8], may: bool) -> Answer
+        ensures is { λ r. ⌜ replyOf r ≡ passing (layoutOf edition) (now (s .entry)) (view self) may ⌝ }
+        ensures kept { λ r. ⌜ ((r .number ≡ 0 → ⊥) → r .place ≡ self) ⌝ }
+    {
+        if !may {
+            return refused(11, 0, self);
+        }
+        let n = s.len();
+        if !self.is_fit(edition, n) {
+            return refused(2, 0, self);
+        }
+        let top = self.top;
+        let o1 = self.o1;
+        let o2 = self.o2;
+        let o3 = self.o3;
+        let last = self.last;
+        let state = skipped_state(top.state);
+        let passed = Open {
+            state,
+            start: top.start,
+            end: top.end,
+        };
+        let place = Place {
+            position: last.end,
+            count: self.count,
+            top: passed,
+            o1,
+            o2,
+            o3,
+            last,
+            fresh: false,
+        };
+        refused(0, 0, place)
+    }
+
+    // Whether the last unit was not entered, skipped or taken, and admits others.
+    fn is_untouched(self) -> bool
+        ensures { λ r. ⌜ r ≡ untouched (view self) ⌝ }
+    {
+        if self.count == 0 {
+            return false;
+        }
+        if !self.fresh {
+            return false;
+        }
+        first_state(self.last.id) != 0
+    }
+
+    // SKIP: moves past the last unit, whatever it holds.
+    pub fn skip(self, s: &[u8]) -> Answer
+        ensures is { λ r. ⌜ replyOf r ≡ skipOf (layoutOf First) (now (s .entry)) (view self) ⌝ }
+        ensures kept { λ r. ⌜ ((r .number ≡ 0 → ⊥) → r .place ≡ self) ⌝ }
+    {
+        let may = self.is_untouched();
+        self.pass_as(Edition::First, s, may)
+    }
+
+    // GET_STREAM's number and place: as SKIP, for groups alone.
+    pub fn get_stream_place(self, s: &[u8]) -> Answer
+        ensures is { λ r. ⌜ replyOf r ≡ takeOf (layoutOf First) (now (s .entry)) (view self) ⌝ }
+        ensures kept { λ r. ⌜ ((r .number ≡ 0 → ⊥) → r .place ≡ self) ⌝ }
+    {
+        let may = self.is_untouched();
+        let id = self.last.id;
+        let group = (id == ER_GROUP) | (id == FILE_GROUP);
+        self.pass_as(Edition::First, s, may & group)
+    }
+
+    // PREVIOUS: hands out the last unit again.
+    pub fn previous(self, s: &[u8]) -> Answer
+        ensures is { λ r. ⌜ replyOf r ≡ previousOf (layoutOf First) (now (s .entry)) (view self) ⌝ }
+        ensures kept { λ r. ⌜ r .place ≡ self ⌝ }
+    {
+        if self.count == 0 {
+            return refused(11, 0, self);
+        }
+        let n = s.len();
+        if !self.is_fit(Edition::First, n) {
+            return refused(2, 0, self);
+        }
+        let unit = self.last;
+        Answer {
+            number: 0,
+            offset: 0,
+            unit,
+            place: self,
+        }
+    }
+
+    // ABNORMAL_END: gives the reading up.
+    pub fn abnormal_end(self) -> Answer
+        ensures is { λ r. ⌜ replyOf r ≡ abnormalEnd ⌝ }
+        ensures cleared { λ r. ⌜ r .place ≡ noPlace ⌝ }
+    {
+        let empty = no_place();
+        refused(0, 0, empty)
+    }
+}
+
+// The start of a stream of this edition: the root's rules, 3 to 9.
+fn first_as(edition: Edition, s: &[u8]) -> Answer
+    ensures is { λ r. ⌜ replyOf r ≡ firstOf (layoutOf edition) (now (s .entry)) ⌝ }
+    ensures kept { λ r. ⌜ ((r .number ≡ 0 → ⊥) → r .place ≡ noPlace) ⌝ }
+{
+    match judge_root(edition, s) {
+        Judged::Fault { number, offset } => {
+            let place = no_place();
+            refused(number, offset, place)
+        }
+        Judged::Found {
+            id,
+            action,
+            own,
+            length,
+            state,
+        } => {
+            let unit = Unit {
+                id,
+                action,
+                start: 0,
+                own,
+                end: length,
+            };
+            let top = Open {
+                state,
+                start: 0,
+                end: length,
+            };
+            let o = no_open();
+            let place = Place {
+                position: own,
+                count: 1,
+                top,
+                o1: o,
+                o2: o,
+                o3: o,
+                last: unit,
+                fresh: true,
+            };
+            Answer {
+                number: 0,
+                offset: 0,
+                unit,
+                place,
+            }
+        }
+    }
+}
+
+// FIRST, for streams of the first edition.
+pub fn first(s: &[u8]) -> Answer
+    ensures is { λ r. ⌜ replyOf r ≡ firstOf (layoutOf First) (now (s .entry)) ⌝ }
+    ensures kept { λ r. ⌜ ((r .number ≡ 0 → ⊥) → r .place ≡ noPlace) ⌝ }
+{
+    first_as(Edition::First, s)
+}
+
+// GET_STREAM: the part of the lent stream that is the group, and where the number is not 0, the empty part at the front.
+pub fn get_stream(p: Place, s: &[u8]) -> &[u8]
+    ensures bytes { λ r. ⌜ now r ≡ bytesOf (partAt p (now (s .entry))) (now (s .entry)) ⌝ }
+    ensures stands { λ r. ⌜ (ptr r .0 ≡ ptr (s .entry) .0) × (ptr r .1 ≡ ptr (s .entry) .1 + partAt p (now (s .entry)) .start) ⌝ }
+{
+    let a = p.get_stream_place(s);
+    if a.number != 0 {
+        return &s[0..0];
+    }
+    let start = p.last.start;
+    let end = p.last.end;
+    &s[start..end]
+}

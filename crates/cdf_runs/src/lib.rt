@@ -1,0 +1,1 @@
+// What holds of the reader over whole runs of calls: definitions and claims, and no function.

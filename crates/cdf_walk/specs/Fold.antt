@@ -1,0 +1,35 @@
+-- The number into which a walk folds the units that it is handed and the answer that ends it.
+use Prim.Native.Nat.{ℕ, _*_, _/_, _%_, _^_}
+use mathlib.Core.List.{List, [], _∷_}
+use lib.Bits.{bitOr, bitXor}
+use Rattle.cdf_prefix.specs.Layout.{Layout}
+use Rattle.cdf_units.specs.Units.{listing}
+use Rattle.cdf_units.specs.Check.{checkOf}
+use Rattle.cdf_units.specs.declared.Unit.{Unit}
+use Rattle.cdf_runs.specs.Runs.{afterwards}
+
+-- In 64 bits, moved up by so many.
+abbrev up : ℕ → ℕ → ℕ
+up k n = n * 2 ^ k % 2 ^ 64
+
+-- One more unit: what there is turned by five bits, and the unit's numbers.
+abbrev pub mixOf : ℕ → Unit → ℕ
+mixOf h u =
+    bitXor
+    (bitXor
+    (bitXor (bitOr (up 5 h) (h / 2 ^ 59)) (bitXor (bitXor (u .start) (up 16 (u .own))) (up 32 (u .end))))
+    (up 48 (u .id)))
+    (up 56 (u .action))
+
+unfoldable pub foldUnits : ℕ → List Unit → ℕ
+foldUnits h [] = h
+foldUnits h (u ∷ us) = foldUnits (mixOf h u) us
+
+-- The number that ends the walk, and its offset.
+abbrev pub mixEnd : ℕ → ℕ → ℕ → ℕ
+mixEnd h number offset = bitXor (bitXor h (up 57 number)) (up 3 offset)
+
+-- A whole walk: the unit list, and then the end or the check's number and offset.
+unfoldable pub walkOf : Layout → List ℕ → ℕ
+unfolding foldUnits listing checkOf afterwards
+walkOf l s = mixEnd (foldUnits 0 (listing l s .units)) (afterwards (checkOf l s) .number) (afterwards (checkOf l s) .offset)

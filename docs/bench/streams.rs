@@ -1,0 +1,215 @@
+//! What the codes are compared on: four streams of about 60,000 bytes, damaged copies of them, and samples K1 to K12.
+
+use crate::plain::Unit;
+
+/// The random numbers are the same in every run (SplitMix64).
+pub struct Random(u64);
+
+impl Random {
+    pub fn new(seed: u64) -> Random {
+        Random(seed)
+    }
+
+    pub fn below(&mut self, bound: usize) -> usize {
+        self.0 = self.0.wrapping_add(0x9E37_79B9_7F4A_7C15);
+        let mut z = self.0;
+        z = (z ^ (z >> 30)).wrapping_mul(0xBF58_476D_1CE4_E5B9);
+        z = (z ^ (z >> 27)).wrapping_mul(0x94D0_49BB_1331_11EB);
+        ((z ^ (z >> 31)) % bound as u64) as usize
+    }
+
+    fn between(&mut self, least: usize, most: usize) -> usize {
+        least + self.below(most - least + 1)
+    }
+
+    fn pick<T: Copy>(&mut self, from: &[T]) -> T {
+        from[self.below(from.len())]
+    }
+
+    fn bytes(&mut self, count: usize) -> Vec<u8> {
+        (0..count).map(|_| self.below(256) as u8).collect()
+    }
+}
+
+/// A unit with its own data and the units nested in it, as bytes.
+fn unit(id: u8, action: u8, own: &[u8], nested: &[u8]) -> Vec<u8> {
+    let length =
+        u16::try_from(6 + own.len() + nested.len()).expect("a stream has at most 65,535 bytes");
+    let [high, low] = length.to_be_bytes();
+    [&[0xCD, 0xF1, high, low, action, id], own, nested].concat()
+}
+
+const NAMES: [&str; 12] = [
+    "SURNAME", "GIVEN", "SEX", "BORN_ON", "BORN_AT", "DIED_ON", "NOTE_1", "SOURCE2", "PERSON",
+    "FAMILY", "EVENT", "TITLE",
+];
+
+fn name(random: &mut Random) -> Vec<u8> {
+    let text = random.pick(&NAMES);
+    [&[text.len() as u8], text.as_bytes()].concat()
+}
+
+fn key(random: &mut Random) -> Vec<u8> {
+    if random.below(2) == 0 {
+        unit(6, 0, &random.bytes(4), &[])
+    } else {
+        let length = random.between(4, 8);
+        unit(7, 0, &random.bytes(length), &[])
+    }
+}
+
+fn field(random: &mut Random) -> Vec<u8> {
+    let action = random.pick(&[1, 2, 3, 4]);
+    let length = random.between(2, 8);
+    unit(
+        8,
+        action,
+        &[name(random), random.bytes(length)].concat(),
+        &[],
+    )
+}
+
+/// How many bytes the units of a stream take before no more are added.
+const ENOUGH: usize = 59_960;
+
+fn many(random: &mut Random, one: impl Fn(&mut Random) -> Vec<u8>) -> Vec<u8> {
+    let mut units = Vec::new();
+    while units.len() < ENOUGH {
+        units.extend(one(random));
+    }
+    units
+}
+
+/// One template with one key and small fields.
+fn fields() -> Vec<u8> {
+    let random = &mut Random::new(1);
+    let nested = [key(random), many(random, field)].concat();
+    unit(4, 0, &[], &unit(5, 1, b"\x06PERSON", &nested))
+}
+
+/// Templates with a key and three fields each.
+fn templates() -> Vec<u8> {
+    let nested = many(&mut Random::new(2), |random| {
+        let action = random.pick(&[1, 2, 3, 4]);
+        let nested = [key(random), field(random), field(random), field(random)].concat();
+        unit(5, action, &name(random), &nested)
+    });
+    unit(4, 0, &[], &nested)
+}
+
+/// Relations between two entity keys with one key each, in a group behind a call: nested five deep.
+fn relations() -> Vec<u8> {
+    fn entity_key(random: &mut Random) -> Vec<u8> {
+        unit(11, 0, &name(random), &key(random))
+    }
+    let nested = many(&mut Random::new(3), |random| {
+        let action = random.pick(&[1, 2, 4]);
+        let nested = [entity_key(random), entity_key(random)].concat();
+        unit(9, action, &random.bytes(4), &nested)
+    });
+    let call = unit(2, 0, b"\x05MERGE", &[]);
+    unit(1, 0, &[], &[call, unit(4, 0, &[], &nested)].concat())
+}
+
+/// A file of short lines.
+fn lines() -> Vec<u8> {
+    let nested = many(&mut Random::new(4), |random| {
+        let length = random.between(4, 23);
+        unit(14, 0, &random.bytes(length), &[])
+    });
+    unit(13, 0, &[], &nested)
+}
+
+pub fn streams() -> [(&'static str, Vec<u8>); 4] {
+    [
+        ("fields", fields()),
+        ("templates", templates()),
+        ("relations", relations()),
+        ("lines", lines()),
+    ]
+}
+
+/// A copy of a stream with these units, damaged in one or two places so that every refusal is met.
+pub fn damaged(stream: &[u8], units: &[Unit], random: &mut Random) -> Vec<u8> {
+    let mut bytes = stream.to_vec();
+    for _ in 0..random.between(1, 2) {
+        let at = random.pick(units);
+        match random.below(8) {
+            0 => {
+                let place = random.below(bytes.len());
+                bytes[place] = random.below(256) as u8;
+            }
+            1 => bytes[at.start + random.below(6)] ^= 1 << random.below(8),
+            2 => bytes[at.start + 4] = random.below(6) as u8,
+            3 => bytes[at.start + 5] = random.below(16) as u8,
+            4 => {
+                let place = random.between(at.start + 6, at.end) - 1;
+                bytes[place] = random.pick(b"\x00\x21@AZ[_09a");
+            }
+            // Too short or too long by a little: the next unit seems to stand inside this one or past its own start.
+            5 => set_length(
+                &mut bytes,
+                at.start,
+                (at.end - at.start + random.below(15)).saturating_sub(7),
+            ),
+            // Ends with its own data: incomplete, or without its value.
+            6 => set_length(&mut bytes, at.start, at.own - at.start),
+            // Cut short inside this unit, with the root's length mended or not.
+            _ => {
+                let length = random.between(at.start, at.end);
+                let mut front = stream[..length].to_vec();
+                if length >= 6 && random.below(4) > 0 {
+                    set_length(&mut front, 0, length);
+                }
+                return front;
+            }
+        }
+    }
+    bytes
+}
+
+fn set_length(bytes: &mut [u8], start: usize, length: usize) {
+    bytes[start + 2..start + 4].copy_from_slice(&(length as u16).to_be_bytes());
+}
+
+/// A sample of document 01, and the check's answer: 0 with the count of units, or the refusal and its offset.
+pub struct Sample {
+    pub name: &'static str,
+    pub bytes: Vec<u8>,
+    pub answer: (u64, u64),
+}
+
+pub fn samples() -> [Sample; 12] {
+    const K1: &[u8] = b"\xCD\xF1\x00\x10\x00\x0D\xCD\xF1\x00\x0A\x00\x0E\xC3\x89va";
+    const K2: &[u8] = b"\xCD\xF1\x00\x2E\x00\x04\xCD\xF1\x00\x28\x01\x05\x06PERSON\
+        \xCD\xF1\x00\x0A\x00\x06\x00\x00\x00\x01\xCD\xF1\x00\x11\x01\x08\x07SURNAME\xC3\x85s";
+    const K12: &[u8] = b"\xCD\xF1\x00\x12\x00\x01\xCD\xF1\x00\x0C\x00\x02\x05MERGE";
+    let sample = |name, bytes: &[u8], answer| Sample {
+        name,
+        bytes: bytes.to_vec(),
+        answer,
+    };
+    let changed = |name, of: &[u8], place: usize, byte: u8, answer| {
+        let mut bytes = of.to_vec();
+        bytes[place] = byte;
+        Sample {
+            name,
+            bytes,
+            answer,
+        }
+    };
+    [
+        sample("K1", K1, (0, 2)),
+        sample("K2", K2, (0, 4)),
+        sample("K3", b"", (3, 0)),
+        sample("K4", b"\xCD\xF1\x00\x06\x00\x0D", (10, 0)),
+        changed("K5", K1, 3, 0x0F, (5, 0)),
+        changed("K6", K1, 9, 0x0B, (5, 6)),
+        changed("K7", K1, 9, 0x09, (3, 15)),
+        changed("K8", K2, 9, 0x17, (7, 29)),
+        changed("K9", K2, 1, 0xF0, (4, 0)),
+        changed("K10", K2, 33, 0x00, (8, 29)),
+        changed("K11", K2, 13, 0x31, (9, 6)),
+        sample("K12", K12, (0, 2)),
+    ]
+}
