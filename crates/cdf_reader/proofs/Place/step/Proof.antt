@@ -27,7 +27,8 @@ returns c =
     let start = shut .before .before .before .before .before .before in
     let a = start .args in (
       ap replyOf (c .refused .ensures)
-          ∙ sym (ap (stepped (view (a .self))) (at-end (layoutOf (a .edition)) (a .s .now) (a .self) (start .pre) (shut .close .ensures) (c .before .if1 .taken))),
+          ∙ sym (ap (stepped (view (a .self))) (at-end (layoutOf (a .edition)) (a .s .now) (a .self) (start .pre) (shut .close .ensures)
+          (c .before .if1 .taken))),
       λ some. ap (λ (r : Answer). r .place) (c .refused .ensures),
     )
 
