@@ -57,8 +57,8 @@ numbersOf p =
     ∷ []
 
 -- The eight numbers of an answer: the offset, the unit (id, action, start, own end, end), and the part's start and length.
-abbrev pub answerOf : Reply → List ℕ
-answerOf r =
+abbrev pub replyNumbers : Reply → List ℕ
+replyNumbers r =
     r .offset
     ∷ r .unit .id
     ∷ r .unit .action
@@ -77,13 +77,13 @@ nextFrom s numbers = nextOf (layoutOf First) s (view (placeFrom numbers))
 -- 0 they are the new place, by its view, and else they stay.
 pub record Moved (due : Reply) (before : List ℕ) (number : ℕ) (after answer : List ℕ) : Type 0 where
   pub told : number ≡ due .number
-  pub answers : answer ≡ answerOf due
+  pub answers : answer ≡ replyNumbers due
   pub moves : number ≡ 0 → view (placeFrom after) ≡ due .place
   pub stays : (number ≡ 0 → ⊥) → after ≡ before
 
 -- What a start leaves: the same, and where it is refused the place's numbers are zeros.
 pub record Started (due : Reply) (number : ℕ) (after answer : List ℕ) : Type 0 where
   pub told : number ≡ due .number
-  pub answers : answer ≡ answerOf due
+  pub answers : answer ≡ replyNumbers due
   pub moves : number ≡ 0 → view (placeFrom after) ≡ due .place
   pub clears : (number ≡ 0 → ⊥) → after ≡ numbersOf noPlace

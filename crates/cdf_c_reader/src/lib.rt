@@ -5,7 +5,7 @@ ghost use Rattle.cdf_prefix.specs.Layout.{layoutOf};
 ghost use Rattle.cdf_prefix.specs.declared.Edition.the-variants.{First};
 ghost use Rattle.cdf_place.specs.Calls.{firstOf};
 ghost use Rattle.cdf_reader.specs.View.{replyOf};
-ghost use Rattle.cdf_c_reader.specs.Numbers.{placeFrom, numbersOf, answerOf, nextFrom, Started, Moved};
+ghost use Rattle.cdf_c_reader.specs.Numbers.{placeFrom, numbersOf, replyNumbers, nextFrom, Started, Moved};
 use cdf_reader::Answer;
 use cdf_reader::Place;
 use cdf_reader::first;
@@ -96,7 +96,7 @@ fn write_place(p: Place, a: &mut [u64; 20])
 
 // Writes the numbers of an answer.
 fn write_answer(r: Answer, a: &mut [u64; 8])
-    ensures { λ u. ⌜ now (a .exit) ≡ answerOf (replyOf r) ⌝ }
+    ensures { λ u. ⌜ now (a .exit) ≡ replyNumbers (replyOf r) ⌝ }
 {
     *a = [
         r.offset as u64,

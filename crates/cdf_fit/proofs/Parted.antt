@@ -15,7 +15,7 @@ use Rattle.cdf_units.specs.declared.Unit.{Unit}
 use Rattle.cdf_units.specs.declared.Open.{Open}
 use Rattle.cdf_place.specs.Place.{every, isState, positioned, atLast, fits}
 use Rattle.cdf_place.specs.Slots.{around, openUnits, placeOf}
-use Rattle.cdf_place.specs.Tests.{chain, entered}
+use Rattle.cdf_place.specs.Tests.{chain, justEntered}
 use Rattle.cdf_place.proofs.Fitting.{Fitting, fitting, fits-true, flag-fact, flag-test}
 use Rattle.cdf_place.proofs.Opened.{kinds-states, at-most-four, chain-clauses, clauses-chain}
 
@@ -24,7 +24,7 @@ no true h = absurd (h refl)
 no false h = refl
 
 -- The last unit is the innermost and was just entered: as the clause says it, and as the code asks it.
-last-entered : (position : ℕ) (o : Open) (os : List Open) (u : Unit) → atLast position (o ∷ os) u ≡ true → entered position o u ≡ true
+last-entered : (position : ℕ) (o : Open) (os : List Open) (u : Unit) → atLast position (o ∷ os) u ≡ true → justEntered position o u ≡ true
 unfolding atLast
 last-entered position o os u e =
     let w = both (eqb (unitOf (o .state)) (u .id) && (eqb (o .start) (u .start) && eqb (o .end) (u .end))) _ e in
@@ -40,7 +40,7 @@ last-entered position o os u e =
       z .1,
     )
 
-entered-last : (position : ℕ) (o : Open) (os : List Open) (u : Unit) → isState (o .state) ≡ true → entered position o u ≡ true →
+entered-last : (position : ℕ) (o : Open) (os : List Open) (u : Unit) → isState (o .state) ≡ true → justEntered position o u ≡ true →
     atLast position (o ∷ os) u ≡ true
 unfolding atLast
 entered-last position o os u s e =
@@ -66,7 +66,7 @@ module _ (l : Layout) (n position count : ℕ) (top o1 o2 o3 : Open) (last : Uni
   top-position zero e = absurd (false≢true e)
   top-position (suc k) e = both (leb (top .start + prefixOf l) position) (leb position (top .end)) e
 
-  top-last : (k : ℕ) → atLast position (openUnits k top o1 o2 o3) last ≡ true → entered position top last ≡ true
+  top-last : (k : ℕ) → atLast position (openUnits k top o1 o2 o3) last ≡ true → justEntered position top last ≡ true
   unfolding openUnits atLast
   top-last zero e = absurd (false≢true e)
   top-last (suc k) e = last-entered position top (around o1 o2 o3 k) last e
@@ -97,13 +97,13 @@ module _ (l : Layout) (n position count : ℕ) (top o1 o2 o3 : Open) (last : Uni
   pub bounds-not : Bounds ≡ false → false ≡ Fits
   bounds-not e = no Fits (λ h. absurd (false≢true (sym e ∙ bounds (facts h))))
 
-  pub last-not : (not fresh || entered position top last) ≡ false → false ≡ Fits
+  pub last-not : (not fresh || justEntered position top last) ≡ false → false ≡ Fits
   last-not e =
-      no Fits (λ h. absurd (false≢true (sym e ∙ flag-test fresh (entered position top last) (λ x. top-last count (facts h .last x)))))
+      no Fits (λ h. absurd (false≢true (sym e ∙ flag-test fresh (justEntered position top last) (λ x. top-last count (facts h .last x)))))
 
   -- All the other tests passed: it fits exactly if the open units do.
   module _ (low : leb (top .start + prefixOf l) position ≡ true) (high : position ≤ top .end) (bound : Bounds ≡ true)
-      (flag : (not fresh || entered position top last) ≡ true) where
+      (flag : (not fresh || justEntered position top last) ≡ true) where
     fit : (k : ℕ) → chain l n (openUnits k top o1 o2 o3) ≡ true → Fitting l n (placeOf position k top o1 o2 o3 last fresh)
     unfolding openUnits chain positioned every
     fit zero e = absurd (false≢true e)
@@ -126,7 +126,7 @@ module _ (l : Layout) (n position count : ℕ) (top o1 o2 o3 : Open) (last : Uni
           within = leb-true (last .end) n (y .1);
           last = λ x.
               entered-last position top (around o1 o2 o3 k) last (both (isState (top .state)) _ states .0)
-              (flag-fact fresh (entered position top last) flag x);
+              (flag-fact fresh (justEntered position top last) flag x);
         }
 
     pub by-chain : chain l n (openUnits count top o1 o2 o3) ≡ Fits

@@ -4,7 +4,7 @@ ghost use mathlib.Core.Bool.{not, _&&_, _||_};
 ghost use Prim.Native.Nat.{_+_};
 ghost use lib.Dec.{leb};
 ghost use Rattle.cdf_prefix.specs.Layout.{layoutOf, prefixOf};
-ghost use Rattle.cdf_place.specs.Tests.{entered};
+ghost use Rattle.cdf_place.specs.Tests.{justEntered};
 use cdf_open::is_past;
 use cdf_prefix::Edition;
 use cdf_table::first_state;
@@ -20,7 +20,7 @@ pub fn is_bounded(edition: Edition, n: usize, last: Unit) -> bool
 
 // Whether the last unit may be skipped only where it is the innermost, has had nothing and is just entered.
 pub fn is_skippable(fresh: bool, position: usize, top: Open, last: Unit) -> bool
-    ensures { λ r. ⌜ r ≡ (not fresh || entered position top last) ⌝ }
+    ensures { λ r. ⌜ r ≡ (not fresh || justEntered position top last) ⌝ }
 {
     if !fresh {
         return true;

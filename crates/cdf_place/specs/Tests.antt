@@ -24,6 +24,6 @@ unfolding nested
 chain l n os = nested (spans n) (under l) os
 
 -- The last unit is the innermost one and was just entered: it is in the first state of its id, and the position is its own end.
-abbrev pub entered : ℕ → Open → Unit → Bool
-entered position o u =
+abbrev pub justEntered : ℕ → Open → Unit → Bool
+justEntered position o u =
     eqb (nothing (u .id)) (o .state) && (eqb (u .start) (o .start) && (eqb (u .end) (o .end) && eqb position (u .own)))

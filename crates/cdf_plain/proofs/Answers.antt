@@ -27,7 +27,7 @@ use Rattle.cdf_runs.proofs.Keeps.{Keeps, first-keeps, next-keeps}
 use Rattle.cdf_runs.proofs.Replies.{next-is}
 use Rattle.cdf_runs.proofs.Steps.{Run, ends, breaks, hands}
 use Rattle.cdf_plain.specs.Calls.{Call, start, next, skip, getStream, previous, noPart, handing}
-use Rattle.cdf_plain.specs.Plain.{State, Turn, startingAt, handOut, followers, answer}
+use Rattle.cdf_plain.specs.Plain.{State, Turn, startingAt, handOut, followers, plainAnswer}
 use Rattle.cdf_plain.specs.Runs.{callOf, partTaken}
 use Rattle.cdf_plain.proofs.Skipped.{skipped-complete, group-opens}
 use Rattle.cdf_place.proofs.Replying.{passing-tests, skip-is, take-is, part-is, previous-tests}
@@ -99,13 +99,13 @@ module _ (l : Layout) (s : List ℕ) (all : List Unit) (P : Unit → Type 0) whe
 
   -- A call agrees by what it is in both readers.
   of-made : {p : ReaderPlace} {st : State} {c : Call} {r : Reply} {part : Part} {t : Turn} → Made l s p all st c r part t → Same r part t →
-      Same (callOf l s p c) (partTaken l s p c) (answer all st c)
+      Same (callOf l s p c) (partTaken l s p c) (plainAnswer all st c)
   of-made m same = rw (m .reply, m .taken, m .turned) same
 
   module _ (each : EachUnit P all) where
     -- A start hands out the first of all units, whatever was before.
     pub start-same : Run l s (startStep l s) all ended → (all ≡ [] → ⊥) → (p : ReaderPlace) (st : State) →
-        Same (callOf l s p start) (partTaken l s p start) (answer all st start)
+        Same (callOf l s p start) (partTaken l s p start) (plainAnswer all st start)
     start-same run some p st =
         of-made (start-made l s p all st)
         (rw first-is
@@ -210,11 +210,11 @@ module _ (l : Layout) (s : List ℕ) (all : List Unit) (P : Unit → Type 0) whe
 
     -- So every call answers the same, where the place belongs to the state.
     pub call-same : Run l s (startStep l s) all ended → (all ≡ [] → ⊥) → (p : ReaderPlace) (st : State) →
-        At p (st .units) (st .fresh) → (c : Call) → Same (callOf l s p c) (partTaken l s p c) (answer all st c)
+        At p (st .units) (st .fresh) → (c : Call) → Same (callOf l s p c) (partTaken l s p c) (plainAnswer all st c)
     call-same run some p st = go (st .units) (st .fresh)
       where
         calls : (us : List Unit) (fresh : Bool) → Belongs p us fresh → (c : Call) →
-            Same (callOf l s p c) (partTaken l s p c) (answer all (record { units = p .last ∷ us; fresh = fresh }) c)
+            Same (callOf l s p c) (partTaken l s p c) (plainAnswer all (record { units = p .last ∷ us; fresh = fresh }) c)
         calls us fresh b start = start-same run some p (record { units = p .last ∷ us; fresh = fresh })
         calls us fresh b next = of-made (next-made l s p all (p .last) us fresh) (next-same p us fresh b)
         calls us fresh b skip = of-made (skip-made l s p all (p .last) us fresh) (skip-same p us fresh b)
@@ -222,6 +222,6 @@ module _ (l : Layout) (s : List ℕ) (all : List Unit) (P : Unit → Type 0) whe
         calls us fresh b previous = of-made (previous-made l s p all (p .last) us fresh) (previous-same p us fresh b)
 
         go : (us : List Unit) (fresh : Bool) → At p us fresh → (c : Call) →
-            Same (callOf l s p c) (partTaken l s p c) (answer all (record { units = us; fresh = fresh }) c)
+            Same (callOf l s p c) (partTaken l s p c) (plainAnswer all (record { units = us; fresh = fresh }) c)
         go [] fresh none c = absurd none
         go (u ∷ us) fresh (last, b) c = rw (← last) (calls us fresh b c)

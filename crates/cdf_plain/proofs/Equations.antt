@@ -10,7 +10,7 @@ use Rattle.cdf_units.specs.declared.Unit.{Unit}
 use Rattle.cdf_place.specs.Place.{ReaderPlace}
 use Rattle.cdf_place.specs.Calls.{Reply, Part, noUnit, isGroup, firstOf, nextOf, skipOf, takeOf, partOf, previousOf}
 use Rattle.cdf_plain.specs.Calls.{Call, start, next, skip, getStream, previous, Told, noPart, handing, saying}
-use Rattle.cdf_plain.specs.Plain.{State, Turn, handOut, followers, answerAt, answerFrom, answer}
+use Rattle.cdf_plain.specs.Plain.{State, Turn, handOut, followers, answerAt, answerFrom, plainAnswer}
 use Rattle.cdf_plain.specs.Runs.{callOf, partTaken, tells, readerRun, placeAfter, plainRun, stateAfter}
 
 -- What is told of a reply and a part.
@@ -31,16 +31,16 @@ pub record Made (l : Layout) (s : List ℕ) (p : ReaderPlace) (all : List Unit) 
     : Type 0 where
   pub reply : callOf l s p c ≡ r
   pub taken : partTaken l s p c ≡ part
-  pub turned : answer all st c ≡ t
+  pub turned : plainAnswer all st c ≡ t
 
 module _ (l : Layout) (s : List ℕ) (p : ReaderPlace) (all : List Unit) where
   -- A start may be made in any state.
   pub start-made : (st : State) → Made l s p all st start (firstOf l s) noPart (handOut st all)
-  unfolding callOf partTaken answer
+  unfolding callOf partTaken plainAnswer
   start-made st = record { reply = refl; taken = refl; turned = go (st .units) }
     where
       go : (us : List Unit) →
-          answer all (record { units = us; fresh = st .fresh }) start ≡ handOut (record { units = us; fresh = st .fresh }) all
+          plainAnswer all (record { units = us; fresh = st .fresh }) start ≡ handOut (record { units = us; fresh = st .fresh }) all
       go [] = refl
       go (u ∷ us) = refl
 
@@ -50,20 +50,20 @@ module _ (l : Layout) (s : List ℕ) (p : ReaderPlace) (all : List Unit) where
     now = record { units = u ∷ us; fresh = fresh }
 
     pub next-made : Made l s p all now next (nextOf l s p) noPart (handOut now (followers all u us fresh))
-    unfolding callOf partTaken answer
+    unfolding callOf partTaken plainAnswer
     next-made = record { reply = refl; taken = refl; turned = refl }
 
     pub skip-made : Made l s p all now skip (skipOf l s p) noPart (pass (fresh && opens (u .id)) noPart (u ∷ us) fresh)
-    unfolding callOf partTaken answer
+    unfolding callOf partTaken plainAnswer
     skip-made = record { reply = refl; taken = refl; turned = refl }
 
     pub take-made : Made l s p all now getStream (takeOf l s p) (partOf l s p)
         (pass (fresh && isGroup (u .id)) (record { start = u .start; size = u .end - u .start }) (u ∷ us) fresh)
-    unfolding callOf partTaken answer
+    unfolding callOf partTaken plainAnswer
     take-made = record { reply = refl; taken = refl; turned = refl }
 
     pub previous-made : Made l s p all now previous (previousOf l s p) noPart (turn (handing u) (u ∷ us) fresh)
-    unfolding callOf partTaken answer
+    unfolding callOf partTaken plainAnswer
     previous-made = record { reply = refl; taken = refl; turned = refl }
 
 -- A run of no call, and of one more.
@@ -95,19 +95,19 @@ module _ (all : List Unit) (st : State) where
   state-none = refl
 
   module _ (c : Call) (cs : List Call) where
-    pub plain-on : plainRun all st (c ∷ cs) ≡ answer all st c .told ∷ plainRun all (answer all st c .state) cs
+    pub plain-on : plainRun all st (c ∷ cs) ≡ plainAnswer all st c .told ∷ plainRun all (plainAnswer all st c .state) cs
     unfolding plainRun
     plain-on = refl
 
-    pub state-on : stateAfter all st (c ∷ cs) ≡ stateAfter all (answer all st c .state) cs
+    pub state-on : stateAfter all st (c ∷ cs) ≡ stateAfter all (plainAnswer all st c .state) cs
     unfolding stateAfter
     state-on = refl
 
 -- A next of the plain reader at a unit.
 pub next-plain : (all : List Unit) (u : Unit) (us : List Unit) (fresh : Bool) →
-    answer all (record { units = u ∷ us; fresh = fresh }) next .told
+    plainAnswer all (record { units = u ∷ us; fresh = fresh }) next .told
     ≡ handOut (record { units = u ∷ us; fresh = fresh }) (followers all u us fresh) .told
-unfolding answer answerFrom answerAt
+unfolding plainAnswer answerFrom answerAt
 next-plain all u us fresh = refl
 
 -- What the reader tells of a call, and of a next.

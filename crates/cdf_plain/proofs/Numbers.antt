@@ -9,7 +9,7 @@ use Rattle.cdf_table.proofs.Bools.{of-cond}
 use Rattle.cdf_units.specs.declared.Unit.{Unit}
 use Rattle.cdf_place.specs.Calls.{Part, isGroup}
 use Rattle.cdf_plain.specs.Calls.{Call, start, next, skip, getStream, previous, Told, noPart}
-use Rattle.cdf_plain.specs.Plain.{State, Turn, handOut, followers, answer}
+use Rattle.cdf_plain.specs.Plain.{State, Turn, handOut, followers, plainAnswer}
 use Rattle.cdf_plain.specs.Runs.{plainRun}
 use Rattle.cdf_plain.proofs.Equations.{pass, plain-none, plain-on}
 
@@ -28,8 +28,8 @@ pass-apart may part us fresh =
     of-cond (λ (t : Turn). Apart (t .told .number)) may _ _ (λ e h. absurd (omega arith)) (λ e h. omega arith)
 
 module _ (all : List Unit) where
-  answer-apart : (us : List Unit) (fresh : Bool) (c : Call) → Apart (answer all (record { units = us; fresh = fresh }) c .told .number)
-  unfolding answer
+  answer-apart : (us : List Unit) (fresh : Bool) (c : Call) → Apart (plainAnswer all (record { units = us; fresh = fresh }) c .told .number)
+  unfolding plainAnswer
   answer-apart [] fresh start = hand-apart (record { units = []; fresh = fresh }) all
   answer-apart [] fresh next = λ h. omega arith
   answer-apart [] fresh skip = λ h. omega arith
@@ -45,4 +45,4 @@ module _ (all : List Unit) where
   pub run-apart : (cs : List Call) (st : State) (k : ℕ) → Apart (getD (map (λ (t : Told). t .number) (plainRun all st cs)) k 0)
   run-apart [] st k = rw plain-none (λ h. absurd (omega arith))
   run-apart (c ∷ cs) st zero = rw plain-on (answer-apart (st .units) (st .fresh) c)
-  run-apart (c ∷ cs) st (suc k) = rw plain-on (run-apart cs (answer all st c .state) k)
+  run-apart (c ∷ cs) st (suc k) = rw plain-on (run-apart cs (plainAnswer all st c .state) k)

@@ -17,7 +17,7 @@ use Rattle.cdf_grammar.proofs.Items.{Rooted}
 use Rattle.cdf_place.specs.Place.{ReaderPlace, fits}
 use Rattle.cdf_place.specs.Calls.{emptyPlace, refuse, passed, untouched, isGroup, nextOf, takeOf, partOf}
 use Rattle.cdf_plain.specs.Calls.{Call, start, next, Told, handing}
-use Rattle.cdf_plain.specs.Plain.{State, handOut, answer, followingFrom, following}
+use Rattle.cdf_plain.specs.Plain.{State, handOut, plainAnswer, followingFrom, following}
 use Rattle.cdf_plain.specs.Runs.{callOf, partTaken, tells, readerRun, placeAfter, plainRun, stateAfter, noState}
 use Rattle.cdf_place.proofs.Replying.{passing-tests, take-is, part-is}
 use Rattle.cdf_plain.proofs.Equations.{next-plain, tells-is, next-number, reader-none, reader-on}
@@ -52,7 +52,7 @@ module _ (l : Layout) (s : List ℕ) where
 
     -- A call answers the same and keeps them so, and a start makes them so.
     abbrev Alike : ReaderPlace → State → Call → Type 0
-    Alike p st c = Same l s all (Rooted l s) (callOf l s p c) (partTaken l s p c) (answer all st c)
+    Alike p st c = Same l s all (Rooted l s) (callOf l s p c) (partTaken l s p c) (plainAnswer all st c)
 
     called : (p : ReaderPlace) (st : State) → Together p st → (c : Call) → Alike p st c
     called = call-same l s all (Rooted l s) (r .each) (r .run) (r .some)
@@ -65,21 +65,21 @@ module _ (l : Layout) (s : List ℕ) where
     runs-same [] p st at = rw (reader-none, plain-none)
     runs-same (c ∷ cs) p st at =
         let a = called p st at c in
-        rw (reader-on, plain-on, a .told, runs-same cs (callOf l s p c .place) (answer all st c .state) (a .place))
+        rw (reader-on, plain-on, a .told, runs-same cs (callOf l s p c .place) (plainAnswer all st c .state) (a .place))
 
     after-run : (cs : List Call) (p : ReaderPlace) (st : State) → Together p st → Together (placeAfter l s p cs) (stateAfter all st cs)
     after-run [] p st at = rw (place-none, state-none) at
     after-run (c ∷ cs) p st at =
-        rw (place-on, state-on) (after-run cs (callOf l s p c .place) (answer all st c .state) (called p st at c .place))
+        rw (place-on, state-on) (after-run cs (callOf l s p c .place) (plainAnswer all st c .state) (called p st at c .place))
 
     -- and so from a start.
     pub answers : (cs : List Call) → readerRun l s emptyPlace (start ∷ cs) ≡ plainRun all noState (start ∷ cs)
     answers cs =
-        rw (reader-on, plain-on, begun .told, runs-same cs (callOf l s emptyPlace start .place) (answer all noState start .state) (begun .place))
+        rw (reader-on, plain-on, begun .told, runs-same cs (callOf l s emptyPlace start .place) (plainAnswer all noState start .state) (begun .place))
 
     after : (cs : List Call) → Together (placeAfter l s emptyPlace (start ∷ cs)) (stateAfter all noState (start ∷ cs))
     after cs =
-        rw (place-on, state-on) (after-run cs (callOf l s emptyPlace start .place) (answer all noState start .state) (begun .place))
+        rw (place-on, state-on) (after-run cs (callOf l s emptyPlace start .place) (plainAnswer all noState start .state) (begun .place))
 
     -- NEXT tells the first of the units that follow.
     next-told : (p : ReaderPlace) (us : List Unit) (fresh : Bool) → Together p (record { units = us; fresh = fresh }) →

@@ -63,9 +63,9 @@ unfolding answerAt answerNone
 answerFrom all [] fresh c = answerNone all fresh c
 answerFrom all (u ∷ us) fresh c = answerAt all u us fresh c
 
-unfoldable pub answer : List Unit → State → Call → Turn
+unfoldable pub plainAnswer : List Unit → State → Call → Turn
 unfolding answerFrom
-answer all st c = answerFrom all (st .units) (st .fresh) c
+plainAnswer all st c = answerFrom all (st .units) (st .fresh) c
 
 -- The units that follow in a state; before a start there are none.
 unfoldable pub followingFrom : List Unit → List Unit → Bool → List Unit

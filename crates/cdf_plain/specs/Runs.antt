@@ -7,7 +7,7 @@ use Rattle.cdf_units.specs.declared.Unit.{Unit}
 use Rattle.cdf_place.specs.Place.{ReaderPlace}
 use Rattle.cdf_place.specs.Calls.{Reply, firstOf, nextOf, skipOf, takeOf, Part, partOf, previousOf}
 use Rattle.cdf_plain.specs.Calls.{Call, start, next, skip, getStream, previous, Told, noPart}
-use Rattle.cdf_plain.specs.Plain.{State, answer}
+use Rattle.cdf_plain.specs.Plain.{State, plainAnswer}
 
 unfoldable pub callOf : Layout → List ℕ → ReaderPlace → Call → Reply
 unfolding firstOf nextOf skipOf takeOf previousOf
@@ -48,14 +48,14 @@ placeAfter l s p [] = p
 placeAfter l s p (c ∷ cs) = placeAfter l s (callOf l s p c .place) cs
 
 unfoldable pub plainRun : List Unit → State → List Call → List Told
-unfolding answer
+unfolding plainAnswer
 plainRun all st [] = []
-plainRun all st (c ∷ cs) = answer all st c .told ∷ plainRun all (answer all st c .state) cs
+plainRun all st (c ∷ cs) = plainAnswer all st c .told ∷ plainRun all (plainAnswer all st c .state) cs
 
 unfoldable pub stateAfter : List Unit → State → List Call → State
-unfolding answer
+unfolding plainAnswer
 stateAfter all st [] = st
-stateAfter all st (c ∷ cs) = stateAfter all (answer all st c .state) cs
+stateAfter all st (c ∷ cs) = stateAfter all (plainAnswer all st c .state) cs
 
 -- Before a start.
 abbrev pub noState : State

@@ -15,7 +15,7 @@ use Rattle.cdf_units.specs.Check.{Answer, checkOf}
 use Rattle.cdf_units.specs.declared.Unit.{Unit}
 use Rattle.cdf_units.proofs.Proved.{proved}
 use Rattle.cdf_place.specs.Calls.{Reply, emptyPlace, noUnit, stepped}
-use Rattle.cdf_runs.specs.Runs.{reading, Told, told, afterwards, due, handedOut}
+use Rattle.cdf_runs.specs.Runs.{reading, Outcome, outcome, afterwards, due, handedOut}
 use Rattle.cdf_runs.proofs.Keeps.{Keeps, first-keeps}
 use Rattle.cdf_place.proofs.Replying.{first-is}
 use Rattle.cdf_runs.proofs.Replies.{next-empty}
@@ -26,11 +26,11 @@ use Rattle.cdf_runs.proofs.Readings.{reading-first, reading-next, reads
 afterwards-none : (a : Answer) → afterwards a .number ≡ 0 → ⊥
 unfolding afterwards
 afterwards-none a =
-    of-cond (λ (t : Told). t .number ≡ 0 → ⊥) (eqb (a .number) 0) _ (record { number = a .number; offset = a .value; unit = noUnit })
+    of-cond (λ (t : Outcome). t .number ≡ 0 → ⊥) (eqb (a .number) 0) _ (record { number = a .number; offset = a .value; unit = noUnit })
     (λ e z. omega arith) (λ e. eqb-false (a .number) 0 e)
 
 -- So 0 is due only of the units.
-due-zero : (last : Told) → (last .number ≡ 0 → ⊥) → (us : List Unit) (k : ℕ) → due last us k .number ≡ 0 → k < length us
+due-zero : (last : Outcome) → (last .number ≡ 0 → ⊥) → (us : List Unit) (k : ℕ) → due last us k .number ≡ 0 → k < length us
 unfolding due
 due-zero last none [] k z = absurd (none z)
 due-zero last none (u ∷ us) zero z = omega arith
@@ -55,7 +55,7 @@ module _ (l : Layout) (s : List ℕ) where
 
   -- Only the first answers hand out a unit, as many as are listed.
   zero-below : (us : List Unit) → listing l s .units ≡ us → (k : ℕ) → reading l s k .number ≡ 0 → k < length us
-  unfolding told
+  unfolding outcome
   zero-below [] e k z = absurd (all-refused e k .number z)
   zero-below (u ∷ us) e k z =
       let r = reads l s (λ none. let x : _≡_ {A = ℕ} 0 1 = cc in omega arith) k in

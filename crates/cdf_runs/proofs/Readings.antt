@@ -11,7 +11,7 @@ use Rattle.cdf_units.specs.Check.{answerOf, answer, checkOf}
 use Rattle.cdf_units.specs.declared.Unit.{Unit}
 use Rattle.cdf_place.specs.Place.{ReaderPlace}
 use Rattle.cdf_place.specs.Calls.{Reply, emptyPlace, stepped, firstOf, nextOf}
-use Rattle.cdf_runs.specs.Runs.{reading, told, afterwards, due}
+use Rattle.cdf_runs.specs.Runs.{reading, outcome, afterwards, due}
 use Rattle.cdf_runs.proofs.Around.{placeAt}
 use Rattle.cdf_runs.proofs.Keeps.{Keeps, first-keeps, next-keeps}
 use Rattle.cdf_place.proofs.Replying.{first-is}
@@ -51,8 +51,8 @@ module _ (l : Layout) (s : List ℕ) where
 
   -- A step's own answer: its first unit, or what the end comes to.
   begins-from : {x : Step} {us : List Unit} {e : End} → Run l s x us e → (p : ReaderPlace) → Keeps l s x → (count : ℕ) →
-      told (stepped p x) ≡ due (afterwards (answerOf count e)) us 0
-  unfolding stepped told due afterwards answerOf
+      outcome (stepped p x) ≡ due (afterwards (answerOf count e)) us 0
+  unfolding stepped outcome due afterwards answerOf
   begins-from ends p keeps count = refl
   begins-from (breaks {n} {at}) p keeps count = rw (ne-eqb n 0 keeps)
   begins-from (hands run) p keeps count = refl
@@ -60,15 +60,15 @@ module _ (l : Layout) (s : List ℕ) where
   -- From a step on: its units, and then what the end comes to, for ever. With none left, a next from the place is this step.
   reads-from : {x : Step} {us : List Unit} {e : End} → Run l s x us e → (p : ReaderPlace) → Keeps l s x →
       (us ≡ [] → nextOf l s p ≡ stepped p x) → (count k : ℕ) →
-      told (onward (stepped p x) k) ≡ due (afterwards (answerOf count e)) us k
-  unfolding stepped told due afterwards answerOf onward
+      outcome (onward (stepped p x) k) ≡ due (afterwards (answerOf count e)) us k
+  unfolding stepped outcome due afterwards answerOf onward
   reads-from ends p keeps again count k = rw (stays (stepped p done) (again refl) k)
   reads-from (breaks {n} {at}) p keeps again count k = rw (stays (stepped p (refused n at)) (again refl) k, ne-eqb n 0 keeps)
   reads-from (hands run) p keeps again count zero = refl
   reads-from (hands {u = u} {os = os} {pos = pos} run) p keeps again count (suc k) =
       let q = placeAt u os pos in
       let next = next-is l s q keeps in
-      ap (λ r. told (onward r k)) next ∙ reads-from run q (next-keeps l s q keeps) (λ z. next) count k
+      ap (λ r. outcome (onward r k)) next ∙ reads-from run q (next-keeps l s q keeps) (λ z. next) count k
 
   -- The check's answer is that of the unit list.
   pub check-is : checkOf l s ≡ answerOf (length (listing l s .units)) (listing l s .end)
@@ -77,10 +77,10 @@ module _ (l : Layout) (s : List ℕ) where
 
   -- The start's place has no next, but its step found a unit.
   pub reads : (listing l s .units ≡ [] → ⊥) → (k : ℕ) →
-      told (reading l s k) ≡ due (afterwards (checkOf l s)) (listing l s .units) k
+      outcome (reading l s k) ≡ due (afterwards (checkOf l s)) (listing l s .units) k
   reads some k =
       rw (reading-onward k, first-is l s, check-is)
       (reads-from (listed l s) emptyPlace (first-keeps l s) (λ z. absurd (some z)) (length (listing l s .units)) k)
 
-  pub begins : told (firstOf l s) ≡ due (afterwards (checkOf l s)) (listing l s .units) 0
+  pub begins : outcome (firstOf l s) ≡ due (afterwards (checkOf l s)) (listing l s .units) 0
   begins = rw (first-is l s, check-is) (begins-from (listed l s) emptyPlace (first-keeps l s) (length (listing l s .units)))

@@ -15,22 +15,22 @@ reading l s zero = firstOf l s
 reading l s (suc k) = nextOf l s (reading l s k .place)
 
 -- What an answer tells besides the place.
-pub record Told : Type 0 where
+pub record Outcome : Type 0 where
   pub number : ℕ
   pub offset : ℕ
   pub unit : Unit
 
-unfoldable pub told : Reply → Told
-told r = record { number = r .number; offset = r .offset; unit = r .unit }
+unfoldable pub outcome : Reply → Outcome
+outcome r = record { number = r .number; offset = r .offset; unit = r .unit }
 
 -- Past the last unit: the end, 1, where the check accepts, else the check's own number and offset.
-unfoldable pub afterwards : Answer → Told
+unfoldable pub afterwards : Answer → Outcome
 afterwards a =
     cond (eqb (a .number) 0) (record { number = 1; offset = 0; unit = noUnit })
     (record { number = a .number; offset = a .value; unit = noUnit })
 
 -- What is due of the k-th answer: 0 and the k-th of the units, and this ever after the last.
-unfoldable pub due : Told → List Unit → ℕ → Told
+unfoldable pub due : Outcome → List Unit → ℕ → Outcome
 due last [] k = last
 due last (u ∷ us) zero = record { number = 0; offset = 0; unit = u }
 due last (u ∷ us) (suc k) = due last us k

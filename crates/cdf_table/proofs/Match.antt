@@ -8,7 +8,7 @@ use borrow.Author.Tests.{ltb-true, ltb-false}
 use lib.Dec.{T, eqb, ltb, eqb→eq}
 use types.Run.{OneOf}
 use Rattle.cdf_table.specs.Ids.{member}
-use Rattle.cdf_table.proofs.Tests.{and-left, and-right, or-else, all, below, below-at}
+use Rattle.cdf_table.proofs.Tests.{or-else, below, below-at}
 
 -- what the rest of a match knows: the number is none of the arms' keys, the last arm's first
 abbrev pub Rest : List (List ℕ) → ℕ → Type 0
@@ -25,14 +25,6 @@ each P [] h x o = absurd o
 each P (k ∷ []) h x o = subst P (sym o) (h .0)
 each P (k ∷ j ∷ ks) h x (inl e) = subst P (sym e) (h .0)
 each P (k ∷ j ∷ ks) h x (inr o) = each P (j ∷ ks) (h .1) x o
-
--- the same by a test
-pub at-key : (f : ℕ → Bool) (ks : List ℕ) → T (all f ks) → (x : ℕ) → OneOf ks x → T (f x)
-at-key f ks t x o = each (λ k. T (f k)) ks (tested ks t) x o
-  where
-    tested : (ks : List ℕ) → T (all f ks) → Each (λ k. T (f k)) ks
-    tested [] t = tt
-    tested (k ∷ ks) t = (and-left (f k) (all f ks) t, tested ks (and-right (f k) (all f ks) t))
 
 -- a number that is in a list is one of its numbers
 pub among : (ks : List ℕ) (k x : ℕ) → T (member k ks) → x ≡ k → OneOf ks x

@@ -3,7 +3,7 @@ use mathlib.Core.Path.{ap, _∙_}
 use borrow.Author.Needs.{needs}
 use Rattle.cdf_place.specs.Calls.{Reply}
 use Rattle.cdf_reader.specs.View.{view}
-use Rattle.cdf_c_reader.specs.Numbers.{placeFrom, numbersOf, answerOf}
+use Rattle.cdf_c_reader.specs.Numbers.{placeFrom, numbersOf, replyNumbers}
 use Rattle.cdf_c_reader.proofs.Written.{read-again}
 use Rattle.cdf_c_reader.proofs.cdf_first.Statement.{statement}
 use Rattle.cdf_c_reader.proofs.cdf_first.Tie as tie
@@ -24,7 +24,7 @@ returns c =
     let due = call .ensures .0 in
     record {
       told = ap (λ (r : Reply). r .number) due;
-      answers = wrote .write-answer .ensures ∙ ap answerOf due;
+      answers = wrote .write-answer .ensures ∙ ap replyNumbers due;
       moves = λ z. ap (λ ns. view (placeFrom ns)) (c .write-place .ensures) ∙ ap view (read-again _) ∙ ap (λ (r : Reply). r .place) due;
       clears = λ some. c .write-place .ensures ∙ ap numbersOf (call .ensures .1 some);
     }

@@ -6,7 +6,7 @@ use Rattle.cdf_prefix.specs.declared.Edition.the-variants.{First}
 use Rattle.cdf_place.specs.Calls.{Reply, nextOf}
 use Rattle.cdf_reader.specs.View.{view}
 use Rattle.cdf_reader.specs.declared.Place.{Place}
-use Rattle.cdf_c_reader.specs.Numbers.{placeFrom, answerOf}
+use Rattle.cdf_c_reader.specs.Numbers.{placeFrom, replyNumbers}
 use Rattle.cdf_c_reader.proofs.Written.{read-again}
 use Rattle.cdf_c_reader.proofs.cdf_next.Statement.{statement}
 use Rattle.cdf_c_reader.proofs.cdf_next.Tie as tie
@@ -28,7 +28,7 @@ returns c =
     let due = call .next .ensures .0 ∙ ap (λ (p : Place). nextOf (layoutOf First) (start .before .args .s .now) (view p)) (call .before .place-from .ensures) in
     record {
       told = ap (λ (r : Reply). r .number) due;
-      answers = wrote .write-answer .ensures ∙ ap answerOf due;
+      answers = wrote .write-answer .ensures ∙ ap replyNumbers due;
       moves = λ z. absurd (c .if1 .taken z);
       stays = λ some. refl;
     }
@@ -45,7 +45,7 @@ returns-2 c =
     let due = call .next .ensures .0 ∙ ap (λ (p : Place). nextOf (layoutOf First) (start .before .args .s .now) (view p)) (call .before .place-from .ensures) in
     record {
       told = sym (zero .if1 .left) ∙ ap (λ (r : Reply). r .number) due;
-      answers = wrote .write-answer .ensures ∙ ap answerOf due;
+      answers = wrote .write-answer .ensures ∙ ap replyNumbers due;
       moves = λ z. ap (λ ns. view (placeFrom ns)) (c .write-place .ensures) ∙ ap view (read-again _) ∙ ap (λ (r : Reply). r .place) due;
       stays = λ some. absurd (some refl);
     }
