@@ -44,7 +44,7 @@ pub fn limit(edition: Edition) -> usize
     }
 }
 
-fn second_mark(edition: Edition) -> u8
+pub fn second_mark(edition: Edition) -> u8
     ensures { λ r. ⌜ r ≡ layoutOf edition .mark ⌝ }
 {
     match edition {

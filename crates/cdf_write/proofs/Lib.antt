@@ -1,0 +1,3 @@
+pub mod Patching
+pub mod Fronts
+pub mod Lent
