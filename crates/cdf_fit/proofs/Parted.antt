@@ -19,7 +19,8 @@ use Rattle.cdf_place.specs.Tests.{chain, justEntered}
 use Rattle.cdf_place.proofs.Fitting.{Fitting, fitting, fits-true, flag-fact, flag-test}
 use Rattle.cdf_place.proofs.Opened.{kinds-states, at-most-four, chain-clauses, clauses-chain}
 
-no : (b : Bool) → (b ≡ true → ⊥) → false ≡ b
+-- A test that cannot pass fails.
+pub no : (b : Bool) → (b ≡ true → ⊥) → false ≡ b
 no true h = absurd (h refl)
 no false h = refl
 

@@ -14,7 +14,7 @@ use cdf_units::Open;
 use cdf_units::Unit;
 
 // Whether so many open units lie in one another and span n bytes.
-fn is_chain(
+pub fn is_chain(
     edition: Edition,
     n: usize,
     count: usize,

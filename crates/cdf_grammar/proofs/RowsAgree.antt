@@ -105,7 +105,7 @@ begun : (id : ℕ) → begins id ≡ due id
 unfolding begins due expects expectations unit productionOf opens
 begun = same begins due idsEnd refl (λ id h. rw (none-opens id h))
 
-first-below : (id : ℕ) → nothing id < statesEnd
+pub first-below : (id : ℕ) → nothing id < statesEnd
 unfolding nothing
 first-below id =
     from-parents (λ n. n < statesEnd) (λ p. ltb (p .first) statesEnd) (λ p. eqb (p .id) id) (λ p. p .first) (omega arith)

@@ -1,0 +1,7 @@
+pub mod Fitting
+pub mod Nested
+pub mod Joining
+pub mod Lengths
+pub mod Replying
+pub mod Keeping
+pub mod Proved

@@ -1,0 +1,6 @@
+pub mod Place
+pub mod Slots
+pub mod Requests
+pub mod Calls
+pub mod NearMisses
+pub mod Claims

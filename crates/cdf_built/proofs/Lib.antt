@@ -1,0 +1,17 @@
+pub mod Admitted
+pub mod Shut
+pub mod Asked
+pub mod Forward
+pub mod Answers
+pub mod Rooms
+pub mod Forests
+pub mod Growing
+pub mod Spine
+pub mod Adding
+pub mod Passed
+pub mod Taken
+pub mod Kept
+pub mod Ending
+pub mod Said
+pub mod Building
+pub mod Proved

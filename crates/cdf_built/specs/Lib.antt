@@ -1,0 +1,4 @@
+pub mod Runs
+pub mod Telling
+pub mod Samples
+pub mod Claims
