@@ -1,8 +1,9 @@
 #!/usr/bin/env python3
 """A plain check of CDF streams by the rules of document 01, and the cases that it is asked on.
 
-    check.py            writes LABEL NUMBER VALUE for each case: units if NUMBER is 0, else offset
-    check.py --inputs   writes the cases themselves, as the program cdf_check_cases reads them
+    check.py              writes LABEL NUMBER VALUE for each case: units if NUMBER is 0, else offset
+    check.py --inputs     writes the cases themselves, as the program cdf_check_cases reads them
+    check.py --list FILE  writes what the listing program is to write of the file
 """
 import re
 import sys
@@ -65,36 +66,38 @@ def own_end(s, id, at, end):
     return at if fits else None
 
 
-def check(s):
-    """0 with the count of units, or the first broken rule: its number and offset."""
+def read(s):
+    """0 with the count of units, or the first broken rule: its number and offset; and the units before it: offset, depth, id,
+    action, length."""
     opened = []  # the open units, outermost first
-    at = units = 0
+    units = []
+    at = 0
     while True:
         while opened and opened[-1].end == at:
             closed = opened.pop()
             if len(closed.had) < RULES[closed.id].least:
-                return 10, closed.start
+                return 10, closed.start, units
         if units and not opened:
-            return 0, units
+            return 0, len(units), units
         limit = opened[-1].end if opened else len(s)
         if limit - at < 6:
-            return 3, at
+            return 3, at, units
         if s[at : at + 2] != MARK:
-            return 4, at
+            return 4, at, units
         length, action, id = s[at + 2] * 256 + s[at + 3], s[at + 4], s[at + 5]
         end = at + length
         if length < 6 or end > limit or (not opened and end != limit):
-            return 5, at
+            return 5, at, units
         if id not in RULES:
-            return 6, at
+            return 6, at, units
         if id not in (admitted(opened[-1].id, opened[-1].had) if opened else ROOTS):
-            return 7, at
+            return 7, at, units
         if action not in RULES[id].actions:
-            return 8, at
+            return 8, at, units
         own = own_end(s, id, at + 6, end)
         if own is None:
-            return 9, at
-        units += 1
+            return 9, at, units
+        units.append((at, len(opened) + 1, id, action, length))
         if opened:
             opened[-1].had.append(id)
         if RULES[id].least is None:
@@ -102,6 +105,18 @@ def check(s):
         else:
             opened.append(Open(id, at, end, []))
             at = own
+
+
+def check(s):
+    return read(s)[:2]
+
+
+def listing(s):
+    """The listing program's text: it judges the first 65,536 bytes."""
+    number, value, units = read(s[:65536])
+    if number:
+        return f"refused {number} at {value}\n"
+    return "".join(" ".join(map(str, u)) + "\n" for u in units) + f"ok {value}\n"
 
 
 def unit(id, *parts, action=None):
@@ -238,6 +253,10 @@ def written(s):
 
 def main():
     assert all(check(stream) == answer for stream, answer in SAMPLES)
+    if sys.argv[1:2] == ["--list"]:
+        with open(sys.argv[2], "rb") as file:
+            sys.stdout.write(listing(file.read()))
+        return
     for label, stream in cases():
         if sys.argv[1:] == ["--inputs"]:
             print(f"{label}:{written(stream)}")

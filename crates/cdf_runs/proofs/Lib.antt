@@ -4,4 +4,5 @@ pub mod Replies
 pub mod Steps
 pub mod Readings
 pub mod Handed
+pub mod Further
 pub mod Proved

@@ -1,2 +1,1 @@
-pub mod Further
 pub mod Walking

@@ -6,7 +6,7 @@ use lib.ListN.{length}
 use Rattle.cdf_prefix.specs.Layout.{layoutOf}
 use Rattle.cdf_prefix.specs.declared.Edition.the-variants.{First}
 use Rattle.cdf_reader.specs.View.{view, replyOf}
-use Rattle.cdf_walk.proofs.Further.{first-later, next-later, ahead, less}
+use Rattle.cdf_runs.proofs.Further.{first-later, next-later, ahead, less}
 use Rattle.cdf_walk.proofs.Walking.{Going, begun, on, ended-walk}
 use Rattle.cdf_walk.proofs.cdf_walk.Statement.{statement}
 use Rattle.cdf_walk.proofs.cdf_walk.Tie as tie

@@ -1,4 +1,4 @@
--- A next that hands out a unit comes further, and not past the end: so a walk ends.
+-- A next that hands out a unit comes further, and not past the end: so a run of nexts ends.
 use Prim.Native.Nat.{ℕ, suc, _-_, _≤_, _<_}
 use mathlib.Core.Path.{_≡_, refl}
 use mathlib.Core.Bool.{Bool, true, false, cond, not}
@@ -13,8 +13,8 @@ use Rattle.cdf_units.specs.Stack.{Step, done, refused, found, step}
 use Rattle.cdf_units.proofs.Few.{Further, step-further, unit-further}
 use Rattle.cdf_place.specs.Place.{ReaderPlace, isEmpty, fits}
 use Rattle.cdf_place.specs.Calls.{Reply, emptyPlace, refuse, stepped, firstOf, nextOf}
-use Rattle.cdf_runs.proofs.Keeps.{Keeps, first-keeps, next-keeps}
 use Rattle.cdf_place.proofs.Replying.{start, first-is, next-tests}
+use Rattle.cdf_runs.proofs.Keeps.{Keeps, first-keeps, next-keeps}
 
 module _ (l : Layout) (s : List ℕ) where
   -- If the number is 0, the new position is past the old one and in the bytes.
@@ -39,7 +39,7 @@ module _ (l : Layout) (s : List ℕ) where
       (λ f. stepped-later (p .position) p (step l s (p .units) (p .position)) (step-further l s (p .position) (p .units))
       (next-keeps l s p (not-false (fits l (length s) p) f)))))
 
-  -- What is left of a walk after an answer.
+  -- What is left of a run after an answer.
   abbrev pub ahead : ℕ → ℕ → ℕ
   ahead number position = cond (eqb number 0) (suc (length s - position)) 0
 

@@ -1,0 +1,4 @@
+pub mod Putting
+pub mod Lining
+pub mod Answered
+pub mod Filled

@@ -1,0 +1,73 @@
+-- The lines of the units in the buffer, turn by turn.
+use Prim.Native.Nat.{ℕ, _≤_, _<_}
+use mathlib.Core.Path.{_≡_, ap}
+use mathlib.Core.List.{List, [], _++_}
+use native.Mathlib.Omega.{arith}
+use lib.ListN.{length, length-append}
+use Rattle.cdf_prefix.specs.Layout.{layoutOf}
+use Rattle.cdf_prefix.specs.declared.Edition.the-variants.{First}
+use Rattle.cdf_place.specs.Calls.{firstOf, nextOf}
+use Rattle.cdf_runs.proofs.Further.{first-later, next-later, ahead, less}
+use Rattle.cdf_reader.specs.View.{view, replyOf}
+use Rattle.cdf_reader.specs.declared.Answer.{Answer}
+use Rattle.cdf_reader.proofs.Stepped.{length-open}
+use Rattle.cdf_text.specs.Text.{lineOf, listedLines}
+use Rattle.cdf_text.proofs.Deep.{depthIn}
+use Rattle.cdf_text.proofs.Short.{listed-short}
+use Rattle.cdf_text.proofs.Going.{Going, begun, lineIn, Turn, turn, over}
+use Rattle.cdf_listing.specs.Put.{Room, Put}
+use Rattle.cdf_listing.proofs.Putting.{nothing-put, put-both}
+
+-- The line of the unit that an answer hands out.
+abbrev pub lineBy : Answer → List ℕ
+lineBy a = lineOf (depthIn (a .place .fresh) (a .place .count)) (a .unit)
+
+line-by : (a : Answer) → lineIn (replyOf a) ≡ lineBy a
+line-by a = rw length-open
+
+module _ (s : List ℕ) where
+  -- The lines before the answer in hand were put at the front.
+  pub record Lined (before : List ℕ) (a : Answer) (after : List ℕ) (at : ℕ) : Type 0 where
+    pub text : List ℕ
+    pub going : Going (layoutOf First) s (replyOf a) text
+    pub put : Put before 0 text after at
+    pub inside : a .number ≡ 0 → a .place .position ≤ length s
+
+  pub lined-first : (before : List ℕ) (a : Answer) → replyOf a ≡ firstOf (layoutOf First) s → Lined before a before 0
+  lined-first before a e = record {
+    text = [];
+    going = begun (layoutOf First) s (replyOf a) e;
+    put = nothing-put before 0;
+    inside = λ z. (rw (← e) at (first-later (layoutOf First) s)) z .1;
+  }
+
+  pub lined-over : {before after : List ℕ} {a : Answer} {at : ℕ} → Lined before a after at → (a .number ≡ 0 → ⊥) →
+      Put before 0 (listedLines (layoutOf First) s) after at
+  lined-over {a = a} w some = rw (over (layoutOf First) s (replyOf a) (w .text) (w .going) some) (w .put)
+
+  -- A unit was handed out.
+  module _ {before after : List ℕ} {a : Answer} {at : ℕ} (w : Lined before a after at) (z : a .number ≡ 0) where
+    here : Turn (layoutOf First) s (replyOf a) (w .text)
+    here = turn (layoutOf First) s (replyOf a) (w .text) (w .going) z
+
+    pub lined-few : a .place .count ≤ 4
+    lined-few = rw length-open at (here .few)
+
+    pub lined-room : Room at (lineBy a) × (a .unit .start ≤ a .unit .end)
+    lined-room =
+        let all = listed-short s in
+        (record { held = omega (arith, w .put .next, simp length-append at (ap length (rw (line-by a) at (here .part .1)))) }, here .ordered)
+
+    pub lined-next : (r : Answer) → replyOf r ≡ nextOf (layoutOf First) s (view (a .place)) → {more : List ℕ} {next : ℕ} →
+        Put after at (lineBy a) more next → Lined before r more next
+    lined-next r e p = record {
+      text = w .text ++ lineBy a;
+      going = rw (e, ← line-by a) (here .next);
+      put = put-both (w .put) p;
+      inside = λ y. (rw (← e) at (next-later (layoutOf First) s (view (a .place)))) y .1;
+    }
+
+    pub lined-less : (r : Answer) → replyOf r ≡ nextOf (layoutOf First) s (view (a .place)) →
+        ahead (layoutOf First) s (r .number) (r .place .position) < ahead (layoutOf First) s (a .number) (a .place .position)
+    lined-less r e =
+        less (layoutOf First) s _ _ (replyOf r) z (w .inside z) (rw (← e) at (next-later (layoutOf First) s (view (a .place))))

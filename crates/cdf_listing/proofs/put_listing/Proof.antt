@@ -1,0 +1,74 @@
+-- The text by the case of the check's answer.
+use mathlib.Core.Path.{sym, _∙_}
+use native.Mathlib.Omega.{arith}
+use borrow.Author.Needs.{needs}
+use Rattle.cdf_prefix.specs.Layout.{layoutOf}
+use Rattle.cdf_prefix.specs.declared.Edition.the-variants.{First}
+use Rattle.cdf_listing.proofs.Answered.{accepted, turned-down, ok-room, refused-room}
+use Rattle.cdf_listing.proofs.Putting.{put-both}
+use Rattle.cdf_listing.proofs.put_listing.Statement.{statement}
+use Rattle.cdf_listing.proofs.put_listing.Tie as tie
+
+check-requires : tie.Need-check-requires
+check-requires c κs = search needs
+
+enum-known-units : tie.Need-enum-known-units
+enum-known-units c = search needs
+
+put-units-requires : tie.Need-put-units-requires
+put-units-requires c κs = search needs
+
+put-ok-requires : tie.Need-put-ok-requires
+put-ok-requires c κs =
+    let lines = c .before .before .before in
+    let told = lines .before .before .before in
+    let start = told .before .before .before .before .before in
+    ok-room (start .args .s .now) (told .units .given .0 .0) (omega arith) (lines .put-units .ensures)
+
+enum-known-number : tie.Need-enum-known-number
+enum-known-number c = search needs
+
+put-refused-requires : tie.Need-put-refused-requires
+put-refused-requires c κs =
+    let told = c .before .before .number .given .0 in refused-room (told .0) (told .1 .0) (omega arith) (omega arith)
+
+same-length : tie.Need-same-length
+same-length c = search needs
+
+returns : tie.Need-returns
+returns c =
+    let ok = c .before .before in
+    let lines = ok .before .before .before .before in
+    let told = lines .before .before .before in
+    let answer = told .before .before in
+    let start = answer .before .before .before in
+    let case = told .units .given in
+    rw (accepted (layoutOf First) (start .args .s .now) (case .0 .0) (sym (answer .check .ensures .1 .0) ∙ case .1))
+    (put-both (lines .put-units .ensures) (ok .put-ok .ensures))
+
+same-length-2 : tie.Need-same-length-2
+same-length-2 c = search needs
+
+returns-2 : tie.Need-returns-2
+returns-2 c =
+    let told = c .before .before .before .before .before in
+    let answer = told .before .before in
+    let start = answer .before .before .before in
+    let case = told .number .given in
+    rw (turned-down (layoutOf First) (start .args .s .now) (case .0 .0) (case .0 .1 .0) (sym (answer .check .ensures .1 .0) ∙ case .1))
+    (c .before .before .put-refused .ensures)
+
+pub put-listing-spec : {M : Type 1} → statement M
+put-listing-spec =
+    tie.close
+    (tie.spec
+    check-requires
+    enum-known-units
+    put-units-requires
+    put-ok-requires
+    enum-known-number
+    put-refused-requires
+    same-length
+    returns
+    same-length-2
+    returns-2)

@@ -1,0 +1,69 @@
+-- The loop ends, since each unit comes further.
+use borrow.Author.Needs.{needs}
+use Rattle.cdf_prefix.specs.Layout.{layoutOf}
+use Rattle.cdf_prefix.specs.declared.Edition.the-variants.{First}
+use Rattle.cdf_runs.proofs.Further.{ahead}
+use Rattle.cdf_listing.proofs.Putting.{put-length}
+use Rattle.cdf_listing.proofs.Lining.{Lined, lined-first, lined-over, lined-few, lined-room, lined-next, lined-less}
+use Rattle.cdf_listing.proofs.put_units.Statement.{statement}
+use Rattle.cdf_listing.proofs.put_units.Tie as tie
+
+abbrev Inv-loop : tie.InvT-loop
+Inv-loop s out₀ a₀ at₀ out a at = Lined s out₀ a out at
+
+abbrev μ-loop : tie.MeasureT-loop
+μ-loop s out₀ a₀ at₀ out a at = ahead (layoutOf First) s (a .number) (a .place .position)
+
+first-requires : tie.Need-first-requires Inv-loop μ-loop
+first-requires c κs = search needs
+
+loop-holds : tie.Need-loop-holds Inv-loop μ-loop
+loop-holds c =
+    let a = c .before .before .before .args in lined-first (a .s .now) (a .out .now) (c .first .result) (c .first .ensures .0)
+
+depth-of-requires : tie.Need-depth-of-requires Inv-loop μ-loop
+depth-of-requires c κs =
+    let more = c .before .before in lined-few _ (more .before .before .loop .inv) (more .if1 .taken)
+
+put-line-requires : tie.Need-put-line-requires Inv-loop μ-loop
+put-line-requires c κs =
+    let more = c .before .before .before .before in
+    rw (c .before .depth-of .ensures) (lined-room _ (more .before .before .loop .inv) (more .if1 .taken))
+
+next-requires : tie.Need-next-requires Inv-loop μ-loop
+next-requires c κs = search needs
+
+loop-less : tie.Need-loop-less Inv-loop μ-loop
+loop-less c =
+    let more = c .before .before .before .before .before .before .before .before in
+    lined-less _ (more .before .before .loop .inv) (more .if1 .taken) (c .next .result) (c .next .ensures .0)
+
+loop-again : tie.Need-loop-again Inv-loop μ-loop
+loop-again c =
+    let line = c .before .before .before in
+    let depth = line .before .before in
+    let more = depth .before .before .before in
+    lined-next _ (more .before .before .loop .inv) (more .if1 .taken) (c .next .result) (c .next .ensures .0)
+    (rw (depth .depth-of .ensures) at (line .put-line .ensures))
+
+returns : tie.Need-returns Inv-loop μ-loop
+returns c = lined-over _ (c .before .before .loop .inv) (c .if1 .left)
+
+same-length : tie.Need-same-length Inv-loop μ-loop
+same-length c = put-length (returns c)
+
+pub put-units-spec : {M : Type 1} → statement M
+put-units-spec =
+    tie.close
+    (tie.spec
+    Inv-loop
+    μ-loop
+    first-requires
+    loop-holds
+    depth-of-requires
+    put-line-requires
+    next-requires
+    loop-less
+    loop-again
+    same-length
+    returns)
