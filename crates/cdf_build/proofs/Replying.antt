@@ -150,7 +150,7 @@ module _ (l : Layout) (n : ℕ) (p : BuilderPlace) (r : Request) where
     λ w. rw (room-tests l n sizeWith, le-ltb (l .limit) sizeWith (w .0), le-ltb n sizeWith (w .1)),
   )
 
-  call-fitting : fits l n p ≡ true → callNumber l n p r ≡ refused l (p .units) r (room l n sizeWith)
+  pub call-fitting : fits l n p ≡ true → callNumber l n p r ≡ refused l (p .units) r (room l n sizeWith)
   call-fitting fit = rw (call-tests l n p r, fit)
 
   pub call-zero : fits l n p ≡ true →

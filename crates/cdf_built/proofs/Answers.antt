@@ -8,7 +8,7 @@ use Rattle.cdf_prefix.specs.Layout.{Layout}
 use Rattle.cdf_write.specs.Patch.{patch}
 use Rattle.cdf_build.specs.Place.{stands, standing, fits}
 use Rattle.cdf_build.specs.Requests.{Request, bytesFor, refused, grown}
-use Rattle.cdf_build.specs.Calls.{Reply, lengths, writeOf, callOf}
+use Rattle.cdf_build.specs.Calls.{Reply, lengths, writeOf, callNumber, callOf}
 use Rattle.cdf_build.proofs.Replying.{sizeWith, call-number, call-fit, call-zero, call-done, call-length}
 use Rattle.cdf_build.proofs.Keeping.{call-fits}
 use Rattle.cdf_built.specs.Runs.{answer, run, AllDone}
@@ -31,13 +31,16 @@ module _ (l : Layout) where
       zero : callOf l (a .buffer) (a .place) r .number ≡ 0
       zero = rw answer-is at done
 
-      -- What its number 0 tells: the request is admitted, and there is room for it.
+      call : callNumber l (length (a .buffer)) (a .place) r ≡ 0
+      call = sym (call-number l (a .buffer) (a .place) r) ∙ zero
+
+      -- What its number 0 tells: the place fits, the request is admitted, and there is room for it.
+      pub answer-fit : Fit a
+      answer-fit = call-fit l (length (a .buffer)) (a .place) r call
+
       pub answer-called : (refused l (a .place .units) r 0 ≡ 0)
           × (sizeWith l (length (a .buffer)) (a .place) r ≤ l .limit) × (sizeWith l (length (a .buffer)) (a .place) r ≤ length (a .buffer))
-      answer-called =
-          let n = length (a .buffer) in
-          let call = sym (call-number l (a .buffer) (a .place) r) ∙ zero in
-          call-zero l n (a .place) r (call-fit l n (a .place) r call) .0 call
+      answer-called = call-zero l (length (a .buffer)) (a .place) r answer-fit .0 call
 
       pub answer-fits : Fit (answer l a r)
       answer-fits = rw answer-is (call-fits l (a .buffer) (a .place) r zero)

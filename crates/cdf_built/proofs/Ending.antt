@@ -37,7 +37,7 @@ pub record Ended (l : Layout) (rs : List Request) (front : List ℕ) : Type 0 wh
   pub tells : Tells l told rs
   pub bytes : front ≡ encode l told
 
-root-told : (l : Layout) (kids : Forest) (rs : List Request) → Told l [] kids rs → Tells l kids rs
+pub root-told : (l : Layout) (kids : Forest) (rs : List Request) → Told l [] kids rs → Tells l kids rs
 root-told l kids rs t = rw (t .parts, t .heads) (t .trees)
 
 ended : (l : Layout) (w : ℕ) (rs : List Request) (front : List ℕ) → Spine l w [] rs front → Ended l rs front

@@ -30,14 +30,14 @@ use Rattle.cdf_built.proofs.Shut.{Shut, shut-append, shut-below, shut-c
 use Rattle.cdf_built.proofs.Asked.{unit-asked, group-asked, root-read}
 
 -- An open unit once it is in this state.
-abbrev inState : Begun → ℕ → Begun
+abbrev pub inState : Begun → ℕ → Begun
 inState o state = record { state = state; start = o .start }
 
 -- These open units are o, those around it, and inside it only units that are shut.
-record At (units : List Begun) (o : Begun) (os : List Begun) : Type 0 where
-  inside : List Begun
-  shut : Shut (level (unitOf (o .state))) inside
-  are : units ≡ inside ++ (o ∷ os)
+pub record At (units : List Begun) (o : Begun) (os : List Begun) : Type 0 where
+  pub inside : List Begun
+  pub shut : Shut (level (unitOf (o .state))) inside
+  pub are : units ≡ inside ++ (o ∷ os)
 
 -- A unit that admits no more than lower ones, and is complete, is itself shut.
 closed : {units : List Begun} {n o : Begun} {os : List Begun} → At units n (o ∷ os) → complete (n .state) ≡ true →
@@ -54,7 +54,7 @@ all-completed : {units : List Begun} {o : Begun} → At units o [] → complete 
 unfolding completed
 all-completed {o = o} a full = rw (a .are) (shut-completed _ (a .inside) (o ∷ []) (a .shut) (rw full))
 
-through-stays : (state : ℕ) (cs : List ℕ) → (through state cs ≡ 0 → ⊥) → unitOf (through state cs) ≡ unitOf state
+pub through-stays : (state : ℕ) (cs : List ℕ) → (through state cs ≡ 0 → ⊥) → unitOf (through state cs) ≡ unitOf state
 unfolding through
 through-stays state [] some = refl
 through-stays state (c ∷ cs) some =
@@ -62,7 +62,7 @@ through-stays state (c ∷ cs) some =
 
 module _ (l : Layout) where
   -- The requests are admitted, and lead to such units.
-  abbrev Leads : BuilderPlace → List Request → Begun → List Begun → Type 0
+  abbrev pub Leads : BuilderPlace → List Request → Begun → List Begun → Type 0
   Leads p rs o os = Admitted l p rs × At (placeAfter l p rs .units) o os
 
   on : (p : BuilderPlace) (rs more : List Request) {o n : Begun} {os : List Begun} → Leads p rs o os →
@@ -108,7 +108,7 @@ module _ (l : Layout) where
   entering-group at g = refl
 
   -- From an open unit that admits the roots of these trees, the requests that tell of them lead to it, once it has had them.
-  abbrev Goes : Forest → Type 0
+  abbrev pub Goes : Forest → Type 0
   Goes f =
       (rs : List Request) → Tells l f rs → (p : BuilderPlace) (o : Begun) (os : List Begun) → At (p .units) o os →
       (through (o .state) (ids f) ≡ 0 → ⊥) → Leads p rs (inState o (through (o .state) (ids f))) os
@@ -178,7 +178,7 @@ module _ (l : Layout) where
         go (inr (g, after, e, kind, s, later)) =
             rw e (then (group g ∷ []) after later (group-leads id action text inner g s kind p o os at may))
 
-    over : (f : Forest) → Conforms f → Goes f
+    pub over : (f : Forest) → Conforms f → Goes f
     unfolding ids through placeAfter
     over none c = λ rs tells p o os at some. rw tells (record {}, at)
     over (tree id action text inner rest) c =

@@ -78,7 +78,7 @@ one-root none id e = absurd (cons≢nil (sym e))
 one-root (tree i action text inner none) id e = (action, text, inner, cc)
 one-root (tree i action text inner (tree j a s f x)) id e = let z : j ∷ ids x ≡ [] = cc in absurd (cons≢nil z)
 
-group-rules : (l : Layout) (os : List Begun) (g : List ℕ) → refused l os (group g) 0 ≡ 0 →
+pub group-rules : (l : Layout) (os : List Begun) (g : List ℕ) → refused l os (group g) 0 ≡ 0 →
     Joins os (idAt l g) × (checkOf l g .number ≡ 0) × (isGroup (idAt l g) ≡ true)
 unfolding refused acceptedGroup
 group-rules l os g r =
@@ -98,7 +98,7 @@ stream-root l g t s =
     let one = one-root t (root .0) (root .1) in
     (one .0, one .1, one .2, read-root l g (root .0) (one .0) (one .1) (one .2) (rw (one .3) at s))
 
-group-kind : (id : ℕ) → isGroup id ≡ true → Among id (erGroup ∷ fileGroup ∷ [])
+pub group-kind : (id : ℕ) → isGroup id ≡ true → Among id (erGroup ∷ fileGroup ∷ [])
 group-kind id e =
     ⊎-elim (λ x. inl (eqb-true id erGroup x)) (λ x. inr (inl (eqb-true id fileGroup x))) (either (eqb id erGroup) (eqb id fileGroup) e)
 

@@ -19,13 +19,8 @@ use Rattle.cdf_built.specs.Samples.{building}
 use Rattle.cdf_built.specs.Claims.{Claims}
 use Rattle.cdf_built.proofs.Answers.{answer-is}
 use Rattle.cdf_built.proofs.Ending.{tells-units}
-use Rattle.cdf_built.proofs.Said.{told-says, told-append}
+use Rattle.cdf_built.proofs.Said.{told-says, told-units, told-append}
 use Rattle.cdf_built.proofs.Building.{builds}
-
-told-units : (l : Layout) (us : List Item) → told l (map unit us) ≡ us
-unfolding told
-told-units l [] = refl
-told-units l (u ∷ us) = ap (λ (xs : List Item). u ∷ xs) (told-units l us)
 
 plain : (e : Edition) (us : List Item) → Begins (layoutOf e) (map unit us) ↔ BeginUnits us
 plain e us =

@@ -30,7 +30,7 @@ module _ (l : Layout) where
   unfolding sizes
   sizes-on r rs = refl
 
-  sizes-end : sizes l [] ≡ 0
+  pub sizes-end : sizes l [] ≡ 0
   unfolding sizes
   sizes-end = refl
 
@@ -63,7 +63,7 @@ module _ (l : Layout) where
       let w = done-admitted rs (answer l a r) (answer-fits l a r done) (d .1) in
       ((answer-called l a r done .0, rw (answer-place l a r done) at (w .0)), roomy-on a r done rs .0 (w .1))
 
-  admitted-done : (rs : List Request) (a : Reply) → a .number ≡ 0 → Fit l a → Admitted l (a .place) rs → Roomy a rs → AllDone l a rs
+  pub admitted-done : (rs : List Request) (a : Reply) → a .number ≡ 0 → Fit l a → Admitted l (a .place) rs → Roomy a rs → AllDone l a rs
   admitted-done [] a e fit all room = e
   admitted-done (r ∷ rs) a e fit all room =
       let size = sizes-on r rs in
@@ -105,7 +105,8 @@ all-done e s id rs =
           let b = begun e s id done in
           let same = ap (λ (q : BuilderPlace). q .written) (b .place) in
           let w = done-admitted l rs a (b .fit) d in
-          (start-zero l (length s) id .0 (sym (start-number l s id) ∙ done) .0, rw (b .place) at (w .0), omega (arith, w .1 .0, same), omega (arith, w .1 .1, same, b .long)),
+          let root = start-zero l (length s) id .0 (sym (start-number l s id) ∙ done) .0 in
+          (root, rw (b .place) at (w .0), omega (arith, w .1 .0, same), omega (arith, w .1 .1, same, b .long)),
       λ w.
           let done = start-number l s id ∙ start-zero l (length s) id .1 (w .0, omega (arith, w .3)) in
           let b = begun e s id done in

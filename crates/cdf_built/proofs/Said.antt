@@ -23,13 +23,18 @@ stream-says e s t p =
     let l = layoutOf e in
     ap (map (itemOf l s)) (proved .streams e .listed s t p) ∙ items l s t (fits l t (p .tree .conforms)) (p .bytes)
 
-told-unit : (l : Layout) (u : Item) (rs : List Request) → told l (unit u ∷ rs) ≡ u ∷ told l rs
+pub told-unit : (l : Layout) (u : Item) (rs : List Request) → told l (unit u ∷ rs) ≡ u ∷ told l rs
 unfolding told toldBy
 told-unit l u rs = refl
 
-told-group : (l : Layout) (g : List ℕ) (rs : List Request) → told l (group g ∷ rs) ≡ itemsOf l g ++ told l rs
+pub told-group : (l : Layout) (g : List ℕ) (rs : List Request) → told l (group g ∷ rs) ≡ itemsOf l g ++ told l rs
 unfolding told toldBy
 told-group l g rs = refl
+
+pub told-units : (l : Layout) (us : List Item) → told l (map unit us) ≡ us
+unfolding told
+told-units l [] = refl
+told-units l (u ∷ us) = ap (λ (xs : List Item). u ∷ xs) (told-units l us)
 
 pub told-append : (l : Layout) (xs ys : List Request) → told l (xs ++ ys) ≡ told l xs ++ told l ys
 unfolding told
@@ -45,7 +50,7 @@ says-none : says none ≡ []
 unfolding says
 says-none = refl
 
-told-none : (l : Layout) → told l [] ≡ []
+pub told-none : (l : Layout) → told l [] ≡ []
 unfolding told
 told-none l = refl
 

@@ -27,10 +27,10 @@ joined : (l : Layout) (w : ℕ) (os : List Begun) (rs : List Request) (front : L
 joined l w os rs front id j s = shut-inner l w (j .inner) (j .unit ∷ j .outer) rs front (j .full) (rw (j .parts) at s)
 
 -- The bytes of a unit that has nothing in it.
-unit-bytes : (l : Layout) (u : Item) → bytesFor l (unit u) ≡ encode l (tree (u .id) (u .action) (u .text) none none)
+pub unit-bytes : (l : Layout) (u : Item) → bytesFor l (unit u) ≡ encode l (tree (u .id) (u .action) (u .text) none none)
 unit-bytes l u = bytes-unit l u ∙ sym (rw (encode-tree l (u .id) (u .action) (u .text) none none, encode-none l, append-nil))
 
-bytes-group : (l : Layout) (g : List ℕ) → bytesFor l (group g) ≡ g
+pub bytes-group : (l : Layout) (g : List ℕ) → bytesFor l (group g) ≡ g
 unfolding bytesFor
 bytes-group l g = refl
 
@@ -52,7 +52,7 @@ module _ (l : Layout) (p : BuilderPlace) (o : Begun) (outer : List Begun) where
   unfolding grown idOf entering advanced
   units-leaf u e j = rw (j, e)
 
-  units-group : (g : List ℕ) → joining (idAt l g) (p .units) ≡ o ∷ outer → grown l p (group g) .units ≡ hadBy (idAt l g)
+  pub units-group : (g : List ℕ) → joining (idAt l g) (p .units) ≡ o ∷ outer → grown l p (group g) .units ≡ hadBy (idAt l g)
   unfolding grown idOf entering advanced
   units-group g j = rw j
 
@@ -83,8 +83,9 @@ module _ (l : Layout) (p : BuilderPlace) (rs : List Request) (front : List ℕ) 
       let j = w .joins in
       let id = idAt l g in
       let top = joined l (p .written) (p .units) rs front id j spine in
+      let whole = tree id (w .action) (w .text) (w .inner) none in
       rw (grown-written, units-group l p (j .unit) (j .outer) g (j .joins), bytes-group l g)
-      (rw (w .stream .bytes) at (add-tree l (p .written) (j .unit) (j .outer) rs front top id (j .admitted) (group g) (tree id (w .action) (w .text) (w .inner) none)
+      (rw (w .stream .bytes) at (add-tree l (p .written) (j .unit) (j .outer) rs front top id (j .admitted) (group g) whole
       refl (w .stream .tree .conforms) (inr (g, [], refl, w .kind, w .stream, refl))))
 
 -- A request that no rule refuses.

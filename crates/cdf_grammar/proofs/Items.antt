@@ -23,6 +23,15 @@ use Rattle.cdf_grammar.proofs.Built.{length-unit}
 abbrev item : ℕ → ℕ → List ℕ → Item
 item id action text = record { id = id; action = action; text = text }
 
+-- The units nested in a unit are of one height, lower than its own; complete they need not be.
+abbrev pub Low : Forest → Type 0
+Low none = record {}
+Low (tree id action text inner rest) = Lower (height id) (ids inner) × Low inner × Low rest
+
+pub low : (l : Layout) (f : Forest) → Fits l f → Low f
+low l none fits = record {}
+low l (tree id action text inner rest) (p, within, after) = (nested p, low l inner within, low l rest after)
+
 -- The first item, if any, is of height n or higher.
 abbrev Upper : ℕ → List Item → Type 0
 Upper n [] = record {}
@@ -36,33 +45,37 @@ upper r n none (x ∷ xs) less same up = omega arith
 upper r n (tree id action text inner rest) xs less same up = omega arith
 
 -- Trees end where an item is as high as what follows them.
-said : (l : Layout) (f g : Forest) (n : ℕ) (xs ys : List Item) → Fits l f → Fits l g → Lower n (ids f) → Lower n (ids g) →
+said : (f g : Forest) (n : ℕ) (xs ys : List Item) → Low f → Low g → Lower n (ids f) → Lower n (ids g) →
     Upper n xs → Upper n ys → says f ++ xs ≡ says g ++ ys → (f ≡ g) × (xs ≡ ys)
 unfolding says ids
-said l none none n xs ys p q lf lg ux uy e = (refl, e)
-said l none (tree j b t g y) n xs ys p q lf lg ux uy e = let high : n ≤ height j = rw e at ux in absurd (omega arith)
-said l (tree i a s f x) none n xs ys p q lf lg ux uy e = let high : n ≤ height i = rw (← e) at uy in absurd (omega arith)
-said l (tree i a s f x) (tree j b t g y) n xs ys (p, pf, px) (q, qg, qy) lf lg ux uy e =
+said none none n xs ys p q lf lg ux uy e = (refl, e)
+said none (tree j b t g y) n xs ys p q lf lg ux uy e = let high : n ≤ height j = rw e at ux in absurd (omega arith)
+said (tree i a s f x) none n xs ys p q lf lg ux uy e = let high : n ≤ height i = rw (← e) at uy in absurd (omega arith)
+said (tree i a s f x) (tree j b t g y) n xs ys (p, pf, px) (q, qg, qy) lf lg ux uy e =
     let head : item i a s ≡ item j b t = cc in
     let same-id : i ≡ j = ap (λ (z : Item). z .id) head in
     let same-action : a ≡ b = ap (λ (z : Item). z .action) head in
     let same-text : s ≡ t = ap (λ (z : Item). z .text) head in
     let tail : (says f ++ says x) ++ xs ≡ (says g ++ says y) ++ ys = cc in
     let within =
-    said l f g (height i) (says x ++ xs) (says y ++ ys) pf qg (nested p) (rw (← same-id) at (nested q))
+    said f g (height i) (says x ++ xs) (says y ++ ys) pf qg p (rw (← same-id) at q)
     (upper (height i) n x xs (lf .0) (lf .1) ux) (rw (← same-id) at (upper (height j) n y ys (lg .0) (lg .1) uy))
     (simp append-assoc at tail) in
     let behind =
-    said l x y n xs ys px qy (lower (height i) n (ids x) (lf .0) (lf .1)) (lower (height j) n (ids y) (lg .0) (lg .1))
+    said x y n xs ys px qy (lower (height i) n (ids x) (lf .0) (lf .1)) (lower (height j) n (ids y) (lg .0) (lg .1))
     ux uy (within .1) in
     (cc, behind .1)
 
 -- What the units of one tree say is said by no other.
+pub said-low : (t u : Forest) {i j : ℕ} → Low t → Low u → ids t ≡ i ∷ [] → ids u ≡ j ∷ [] →
+    says t ≡ says u → t ≡ u
+said-low t u {i} {j} p q ti uj e =
+    said t u 5 [] [] p q (rw ti (omega (arith, height-most i), record {})) (rw uj (omega (arith, height-most j), record {}))
+    (record {}) (record {}) (simp append-nil e) .0
+
 pub said-once : (l : Layout) (t u : Forest) {i j : ℕ} → Fits l t → Fits l u → ids t ≡ i ∷ [] → ids u ≡ j ∷ [] →
     says t ≡ says u → t ≡ u
-said-once l t u {i} {j} p q ti uj e =
-    said l t u 5 [] [] p q (rw ti (omega (arith, height-most i), record {})) (rw uj (omega (arith, height-most j), record {}))
-    (record {}) (record {}) (simp append-nil e) .0
+said-once l t u p q = said-low t u (low l t p) (low l u q)
 
 -- What stands at a position, past its first bytes.
 past : (s : List ℕ) (at : ℕ) (b c : List ℕ) → drop at s ≡ b ++ c → drop (at + length b) s ≡ c

@@ -1,0 +1,1 @@
+// What adding a whole group comes to: definitions and claims, and no function.

@@ -1,0 +1,119 @@
+-- Each return by its law (proofs/Deciding). `Else1` to `Else4` are the places past the tests.
+use Prim.Native.Nat.{_+_}
+use mathlib.Core.Path.{_≡_, refl, sym, _∙_}
+use mathlib.Core.Bool.{true}
+use native.Mathlib.Omega.{arith}
+use borrow.Author.Needs.{needs}
+use borrow.Author.Tests.{not-true, not-false}
+use lib.ListN.{length}
+use Rattle.cdf_table.specs.Ids.{known}
+use Rattle.cdf_prefix.specs.Layout.{layoutOf}
+use Rattle.cdf_build.specs.Place.{fits}
+use Rattle.cdf_build.specs.Requests.{unit}
+use Rattle.cdf_builder.specs.View.{view}
+use Rattle.cdf_builder.proofs.Deciding.{declined, unfit, unknown, not-joined, wrong, Grows, grows, unit-grows, sum-fits}
+use Rattle.cdf_builder.proofs.Few.{growable}
+use Rattle.cdf_builder.proofs.Builder.decide_as.Statement.{statement}
+use Rattle.cdf_builder.proofs.Builder.decide_as.Tie as tie
+
+fit : (c : tie.Else1) →
+    let a = c .before .before .before .args in
+    fits (layoutOf (a .edition)) (a .n) (view (a .self)) ≡ true
+fit c = sym (c .before .is-fit .ensures) ∙ not-false (c .before .is-fit .result) (c .if1 .left)
+
+is-known : (c : tie.Else2) → known (c .before .before .before .before .before .args .id) ≡ true
+is-known c = sym (c .before .is-known .ensures) ∙ not-false (c .before .is-known .result) (c .if2 .left)
+
+-- No rule of its own is broken.
+asked : (c : tie.After-first-state) →
+    let a = c .before .before .before .before .before .before .before .before .before .before .before .before .args in
+    let left = c .before .before .before .before .before .before .join .result in
+    Grows (layoutOf (a .edition)) (a .n) (a .self) (unit (record { id = a .id; action = a .action; text = a .«data» .now })) (left .count) (left .top)
+    (c .before .prefix .result + length (a .«data» .now)) (c .first-state .result)
+asked c =
+    let own = c .before .before .before in
+    let told = own .before in
+    let joined = told .before .before in
+    let past = joined .before in
+    unit-grows _ _ _ _ _ (fit (past .before .before)) _ (sym (joined .join .ensures .0) ∙ told .if3 .left) (joined .join .ensures .1) _ _ (is-known past)
+    (sym (own .own-fault .ensures) ∙ c .before .before .if4 .left) _ (rw (c .before .prefix .ensures .0)) _ (c .first-state .ensures)
+
+is-fit-requires : tie.Need-is-fit-requires
+is-fit-requires c κs = search needs
+
+returns : tie.Need-returns
+returns c =
+    let asked = c .before .is-fit in
+    let out = sym (asked .ensures) ∙ not-true (asked .result) (c .if1 .taken) in
+    (sym (declined _ _ _ _ 2 (λ e. omega arith) (unfit _ _ _ _ out)), λ some. refl)
+
+is-known-requires : tie.Need-is-known-requires
+is-known-requires c κs = search needs
+
+returns-2 : tie.Need-returns-2
+returns-2 c =
+    let asked = c .before .is-known in
+    let none = sym (asked .ensures) ∙ not-true (asked .result) (c .if2 .taken) in
+    (sym (declined _ _ _ _ 6 (λ e. omega arith) (unknown _ _ _ _ (fit (c .before .before)) none)), λ some. refl)
+
+join-requires : tie.Need-join-requires
+join-requires c κs = search needs
+
+returns-3 : tie.Need-returns-3
+returns-3 c =
+    let joined = c .before .before in
+    let past = joined .before in (
+      sym (declined _ _ _ _ _ (c .if3 .taken)
+          (not-joined _ _ _ _ (fit (past .before .before)) (is-known past) _ (joined .join .ensures .0) (c .if3 .taken))),
+      λ some. refl,
+    )
+
+own-fault-requires : tie.Need-own-fault-requires
+own-fault-requires c κs = search needs
+
+returns-4 : tie.Need-returns-4
+returns-4 c =
+    let told = c .before .before in
+    let joined = told .before .before in
+    let past = joined .before in (
+      sym (declined _ _ _ _ _ (c .if4 .taken)
+          (wrong _ _ _ _ (fit (past .before .before)) (is-known past) (sym (joined .join .ensures .0) ∙ told .if3 .left) _ (c .before .own-fault .ensures)
+          (c .if4 .taken))),
+      λ some. refl,
+    )
+
+prefix-requires : tie.Need-prefix-requires
+prefix-requires c κs = search needs
+
+add-size : tie.Need-add-size
+add-size c = search needs
+
+first-state-requires : tie.Need-first-state-requires
+first-state-requires c κs = search needs
+
+grow-requires : tie.Need-grow-requires
+grow-requires c κs =
+    let a = c .before .before .before .before .before .before .before .before .before .before .before .before .args in
+    let past = c .before .before .before .before .before .before .before .before .before in
+    growable _ _ (a .self) _ _ _ _ _ (sum-fits (a .edition) (a .n) (view (a .self)) _ (fit past) (omega (arith, c .before .prefix .ensures .1))) (asked c)
+
+returns-5 : tie.Need-returns-5
+returns-5 c = (c .grow .ensures .0 ∙ grows _ _ _ _ _ _ _ _ (asked (c .before)), c .grow .ensures .1)
+
+pub decide-as-spec : {M : Type 1} → statement M
+decide-as-spec =
+    tie.close
+    (tie.spec
+    is-fit-requires
+    returns
+    is-known-requires
+    returns-2
+    join-requires
+    returns-3
+    own-fault-requires
+    returns-4
+    prefix-requires
+    add-size
+    first-state-requires
+    grow-requires
+    returns-5)

@@ -1,0 +1,75 @@
+-- Each return by its law (proofs/Deciding). `Else1` to `Else3` are the places past the tests.
+use mathlib.Core.Path.{_≡_, refl, sym, _∙_}
+use mathlib.Core.Bool.{true}
+use native.Mathlib.Omega.{arith}
+use borrow.Author.Needs.{needs}
+use borrow.Author.Tests.{not-true, not-false}
+use lib.ListN.{length}
+use Rattle.cdf_prefix.specs.Layout.{layoutOf}
+use Rattle.cdf_build.specs.Place.{fits}
+use Rattle.cdf_build.specs.Requests.{group}
+use Rattle.cdf_builder.specs.View.{view}
+use Rattle.cdf_builder.proofs.Deciding.{declined, unfit, no-group, group-not-joined, Grows, grows, group-grows, sum-fits}
+use Rattle.cdf_builder.proofs.Few.{growable}
+use Rattle.cdf_builder.proofs.Builder.decide_group.Statement.{statement}
+use Rattle.cdf_builder.proofs.Builder.decide_group.Tie as tie
+
+fit : (c : tie.Else1) →
+    let a = c .before .before .before .args in
+    fits (layoutOf (a .edition)) (a .n) (view (a .self)) ≡ true
+fit c = sym (c .before .is-fit .ensures) ∙ not-false (c .before .is-fit .result) (c .if1 .left)
+
+-- No rule of its own is broken.
+asked : (c : tie.Else3) →
+    let a = c .before .before .before .before .before .before .before .before .args in
+    let left = c .before .before .join .result in
+    Grows (layoutOf (a .edition)) (a .n) (a .self) (group (a .bytes .now)) (left .count) (left .top) (length (a .bytes .now)) 0
+asked c =
+    let joined = c .before .before in
+    let past = joined .before in
+    group-grows _ _ _ _ _ (fit (past .before .before)) _ (sym (joined .join .ensures .0) ∙ c .if3 .left) (joined .join .ensures .1) _
+    (past .before .group-id .ensures) (past .if2 .left)
+
+is-fit-requires : tie.Need-is-fit-requires
+is-fit-requires c κs = search needs
+
+returns : tie.Need-returns
+returns c =
+    let asked = c .before .is-fit in
+    let out = sym (asked .ensures) ∙ not-true (asked .result) (c .if1 .taken) in
+    (sym (declined _ _ _ _ 2 (λ e. omega arith) (unfit _ _ _ _ out)), λ some. refl)
+
+group-id-requires : tie.Need-group-id-requires
+group-id-requires c κs = search needs
+
+returns-2 : tie.Need-returns-2
+returns-2 c =
+    let id = c .before .group-id in
+    (sym (declined _ _ _ _ 14 (λ e. omega arith) (no-group _ _ _ _ (fit (c .before .before)) (sym (id .ensures) ∙ c .if2 .taken))), λ some. refl)
+
+join-requires : tie.Need-join-requires
+join-requires c κs = search needs
+
+returns-3 : tie.Need-returns-3
+returns-3 c =
+    let joined = c .before .before in
+    let past = joined .before in
+    let id = past .before .group-id .ensures in (
+      sym (declined _ _ _ _ _ (c .if3 .taken)
+          (group-not-joined _ _ _ _ (fit (past .before .before)) _ id (past .if2 .left) _ (joined .join .ensures .0) (c .if3 .taken))),
+      λ some. refl,
+    )
+
+grow-requires : tie.Need-grow-requires
+grow-requires c κs =
+    let a = c .before .before .before .before .before .before .before .before .args in
+    let past = c .before .before .before .before .before in
+    growable _ _ (a .self) _ _ _ _ _ (sum-fits (a .edition) (a .n) (view (a .self)) _ (fit past) (omega arith)) (asked c)
+
+returns-4 : tie.Need-returns-4
+returns-4 c = (c .grow .ensures .0 ∙ grows _ _ _ _ _ _ _ _ (asked (c .before)), c .grow .ensures .1)
+
+pub decide-group-spec : {M : Type 1} → statement M
+decide-group-spec =
+    tie.close
+    (tie.spec is-fit-requires returns group-id-requires returns-2 join-requires returns-3 grow-requires returns-4)

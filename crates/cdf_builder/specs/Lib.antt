@@ -1,0 +1,4 @@
+pub mod View
+pub mod Grown
+pub mod Words
+pub mod Claims
