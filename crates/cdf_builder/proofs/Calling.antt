@@ -20,7 +20,7 @@ use Rattle.cdf_build.specs.Place.{BuilderPlace}
 use Rattle.cdf_build.proofs.Replying.{bytes-unit}
 use Rattle.cdf_builder.specs.View.{view, decisionOf, replyOf}
 use Rattle.cdf_builder.specs.declared.Built.{Built}
-use Rattle.cdf_builder.proofs.Deciding.{decided, told}
+use Rattle.cdf_builder.proofs.Deciding.{decided-done, told}
 
 -- An id that is known and an action that is allowed are bytes.
 pub id-byte : (id : ℕ) → known id ≡ true → id % 256 ≡ id
@@ -58,8 +58,7 @@ module _ (l : Layout) (s : List ℕ) (p : BuilderPlace) (r : Request) (b : Built
 pub unit-bytes : (l : Layout) (n : ℕ) (p : BuilderPlace) (u : Item) (b : Built) → decisionOf b ≡ decideOf l n p (unit u) → b .number ≡ 0 →
     unitBytes l (u .id % 256) (u .action % 256) (u .text) [] ≡ bytesFor l (unit u)
 unit-bytes l n p u b d e =
-    let number = sym (ap (λ (x : Decision). x .number) (d ∙ decided l n p (unit u) _ refl)) ∙ e in
-    let w = told l n p u number in
+    let w = told l n p u (decided-done l n p (unit u) b d e) in
     rw (id-byte (u .id) (w .0), action-byte (u .id) (u .action) (w .0) (w .1)) (sym (bytes-unit l u))
 
 module _ (l : Layout) (s : List ℕ) (id : ℕ) where

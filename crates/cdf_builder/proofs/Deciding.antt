@@ -20,16 +20,17 @@ use Rattle.cdf_place.specs.Calls.{isGroup}
 use Rattle.cdf_build.specs.Place.{BuilderPlace, fits}
 use Rattle.cdf_build.specs.Requests.{Request, unit, group, idOf, bytesFor, joining, ending, completed, joined, rightData, acceptedGroup, refused}
 use Rattle.cdf_build.specs.Requests.{advanced, entering, grown}
-use Rattle.cdf_build.specs.Calls.{room, callNumber, decideOf}
+use Rattle.cdf_build.specs.Calls.{Decision, room, callNumber, decideOf}
 use Rattle.cdf_build.specs.declared.Begun.{Begun}
 use Rattle.cdf_build.proofs.Fitting.{fitting}
 use Rattle.cdf_build.proofs.Joining.{joined-is}
 use Rattle.cdf_build.proofs.Replying.{call-fitting}
 use Rattle.cdf_join.specs.Parts.{units, ownFault, groupId}
 use Rattle.cdf_join.proofs.Parts.{units-length}
-use Rattle.cdf_builder.specs.View.{view}
+use Rattle.cdf_builder.specs.View.{view, decisionOf}
 use Rattle.cdf_builder.specs.Grown.{grownBy, growing}
 use Rattle.cdf_builder.specs.declared.Builder.{Builder}
+use Rattle.cdf_builder.specs.declared.Built.{Built}
 
 -- A number that is not 0, or what is asked next.
 abbrev orElse : ℕ → ℕ → ℕ
@@ -53,6 +54,10 @@ module _ (l : Layout) (n : ℕ) (p : BuilderPlace) (r : Request) where
 
   pub declined : (k : ℕ) → (k ≡ 0 → ⊥) → callNumber l n p r ≡ k → decideOf l n p r ≡ record { number = k; place = p }
   declined k some e = decided k e ∙ rw (ne-eqb k 0 some)
+
+  -- What is answered with 0 was decided with 0.
+  pub decided-done : (b : Built) → decisionOf b ≡ decideOf l n p r → b .number ≡ 0 → callNumber l n p r ≡ 0
+  decided-done b d e = sym (ap (λ (x : Decision). x .number) (d ∙ decided _ refl)) ∙ e
 
   pub unfit : fits l n p ≡ false → callNumber l n p r ≡ 2
   unfolding callNumber
@@ -137,8 +142,9 @@ entered-as : (b : Bool) (os : List Begun) → cond (not b) os [] ≡ cond b [] o
 entered-as true os = refl
 entered-as false os = refl
 
--- A request whose own rules are kept: its number is that of the room, and these units are left open.
+-- A request whose own rules are kept: its size may be added, its number is that of the room, and these units are left open.
 pub record Grows (l : Layout) (n : ℕ) (p : Builder) (r : Request) (count : ℕ) (top : Begun) (size first : ℕ) : Type 0 where
+  pub sum : p .written + size < 18446744073709551616
   pub number : callNumber l n (view p) r ≡ room l n (p .written + size)
   pub place : grown l (view p) r ≡ grownBy p count top size first
   pub some : 1 ≤ count
@@ -157,23 +163,31 @@ module _ (l : Layout) (n : ℕ) (p : Builder) (count : ℕ) (top : Begun) where
         let w = joined-is (view p .units) id 0 j .0 in
         omega (arith, ap length (left ∙ ap (advanced id) (w .joins)), units-length (p .o1) (p .o2) (p .o3) count top)
 
-    pub unit-grows : (action : ℕ) (text : List ℕ) → known id ≡ true → ownFault id action text ≡ 0 → (size : ℕ) → size ≡ prefixOf l + length text →
-        (first : ℕ) → first ≡ nothing id → Grows l n p (unit (record { id = id; action = action; text = text })) count top size first
+    pub unit-grows : (action : ℕ) (text : List ℕ) → known id ≡ true → ownFault id action text ≡ 0 →
+        (size : ℕ) → p .written + size < 18446744073709551616 → size ≡ prefixOf l + length text → (first : ℕ) → first ≡ nothing id →
+        Grows l n p (unit (record { id = id; action = action; text = text })) count top size first
     unfolding grown idOf entering opens
-    unit-grows action text k o size e first is =
+    unit-grows action text k o size sum e first is =
         let u : Item = record { id = id; action = action; text = text } in
         let s = e ∙ sym (unit-size l u) in
         record {
+          sum = sum;
           number = right l n (view p) u f k j o ∙ rw (← s);
           place = rw (← s, ← left, ← is, entered-as (eqb first 0) (record { state = first; start = p .written } ∷ []));
           some = left-some;
         }
 
-    pub group-grows : (g : List ℕ) → id ≡ groupId l g → (id ≡ 0 → ⊥) → Grows l n p (group g) count top (length g) 0
+    pub group-grows : (g : List ℕ) → id ≡ groupId l g → (id ≡ 0 → ⊥) → p .written + length g < 18446744073709551616 →
+        Grows l n p (group g) count top (length g) 0
     unfolding grown idOf bytesFor entering
-    group-grows g is some =
+    group-grows g is some sum =
         let w = group-some l g (λ z. some (is ∙ z)) in
-        record { number = group-joined l n (view p) g f id is some j; place = rw (← w .1, ← is, ← left); some = left-some }
+        record {
+          sum = sum;
+          number = group-joined l n (view p) g f id is some j;
+          place = rw (← w .1, ← is, ← left);
+          some = left-some;
+        }
 
 -- A place that fits has written few bytes, so that a size may be added.
 pub sum-fits : (e : Edition) (n : ℕ) (p : BuilderPlace) (size : ℕ) → fits (layoutOf e) n p ≡ true → size < 9223372036854775817 →

@@ -1,6 +1,6 @@
 -- Where a call answers 0, the struct has a slot for each unit that is open then.
-use Prim.Native.Nat.{ℕ, _+_, _≤_, _<_}
-use mathlib.Core.Path.{_≡_, refl, sym, ap, _∙_}
+use Prim.Native.Nat.{ℕ, _≤_}
+use mathlib.Core.Path.{_≡_, ap, _∙_}
 use native.Mathlib.Omega.{arith}
 use borrow.Author.Tests.{ne-eqb}
 use lib.ListN.{length}
@@ -16,7 +16,7 @@ use Rattle.cdf_builder.specs.View.{view, decisionOf}
 use Rattle.cdf_builder.specs.Grown.{Growable}
 use Rattle.cdf_builder.specs.declared.Builder.{Builder}
 use Rattle.cdf_builder.specs.declared.Built.{Built}
-use Rattle.cdf_builder.proofs.Deciding.{decided, Grows}
+use Rattle.cdf_builder.proofs.Deciding.{decided, decided-done, Grows}
 
 few : (l : Layout) (n : ℕ) (p : BuilderPlace) (r : Request) → callNumber l n p r ≡ 0 → length (grown l p r .units) ≤ 4
 few l n p r e = proved .four l n (grown l p r) (next-fits l n p r e)
@@ -28,15 +28,15 @@ count-is p = ap length (units-any (p .written) (p .o1) (p .o2) (p .o3) (p .count
 module _ (l : Layout) (n : ℕ) (p : Builder) (r : Request) where
   pub few-after : (b : Built) → decisionOf b ≡ decideOf l n (view p) r → b .number ≡ 0 → b .place .count ≤ 4
   few-after b d e =
-      let number : callNumber l n (view p) r ≡ 0 = sym (ap (λ (x : Decision). x .number) (d ∙ decided l n (view p) r _ refl)) ∙ e in
+      let number = decided-done l n (view p) r b d e in
       let place = ap (λ (x : Decision). x .place) (d ∙ decided l n (view p) r 0 number) in
       omega (arith, few l n (view p) r number, ap (λ (x : BuilderPlace). length (x .units)) place, count-is (b .place))
 
   -- So a unit that is entered has one.
-  pub growable : (count : ℕ) (top : Begun) (size first : ℕ) → p .written + size < 18446744073709551616 →
-      Grows l n p r count top size first → Growable l n p count size first
-  growable count top size first sum g = record {
-    sum = sum;
+  pub growable : (count : ℕ) (top : Begun) (size first : ℕ) → Grows l n p r count top size first →
+      Growable l n p count size first
+  growable count top size first g = record {
+    sum = g .sum;
     slot = λ room some.
         let long = rw (g .place, ne-eqb first 0 some) at (few l n (view p) r (g .number ∙ room)) in
         (g .some, omega (arith, long, units-length (p .o1) (p .o2) (p .o3) count top));

@@ -1,5 +1,5 @@
 -- Each return by its law (proofs/Deciding). `Else1` to `Else4` are the places past the tests.
-use Prim.Native.Nat.{_+_}
+use Prim.Native.Nat.{_+_, _<_}
 use mathlib.Core.Path.{_≡_, refl, sym, _∙_}
 use mathlib.Core.Bool.{true}
 use native.Mathlib.Omega.{arith}
@@ -24,19 +24,30 @@ fit c = sym (c .before .is-fit .ensures) ∙ not-false (c .before .is-fit .resul
 is-known : (c : tie.Else2) → known (c .before .before .before .before .before .args .id) ≡ true
 is-known c = sym (c .before .is-known .ensures) ∙ not-false (c .before .is-known .result) (c .if2 .left)
 
+-- A lent slice has less than 2^63 bytes.
+small : (c : tie.Else1) → length (c .before .before .before .args .«data» .now) < 9223372036854775808
+small c = omega arith
+
 -- No rule of its own is broken.
 asked : (c : tie.After-first-state) →
-    let a = c .before .before .before .before .before .before .before .before .before .before .before .before .args in
-    let left = c .before .before .before .before .before .before .join .result in
+    let joined = c .before .before .before .before .before .before in
+    let a = joined .before .before .before .before .before .before .args in
+    let left = joined .join .result in
     Grows (layoutOf (a .edition)) (a .n) (a .self) (unit (record { id = a .id; action = a .action; text = a .«data» .now })) (left .count) (left .top)
     (c .before .prefix .result + length (a .«data» .now)) (c .first-state .result)
 asked c =
+    let prefix = c .before .prefix .ensures in
     let own = c .before .before .before in
     let told = own .before in
     let joined = told .before .before in
     let past = joined .before in
-    unit-grows _ _ _ _ _ (fit (past .before .before)) _ (sym (joined .join .ensures .0) ∙ told .if3 .left) (joined .join .ensures .1) _ _ (is-known past)
-    (sym (own .own-fault .ensures) ∙ c .before .before .if4 .left) _ (rw (c .before .prefix .ensures .0)) _ (c .first-state .ensures)
+    let fitted = past .before .before in
+    let fits = fit fitted in
+    let a = fitted .before .before .before .args in
+    let size = c .before .prefix .result + length (a .«data» .now) in
+    let sum = sum-fits (a .edition) (a .n) (view (a .self)) size fits (omega (arith, prefix .1, small fitted)) in
+    unit-grows _ _ _ _ _ fits _ (sym (joined .join .ensures .0) ∙ told .if3 .left) (joined .join .ensures .1) _ _ (is-known past)
+    (sym (own .own-fault .ensures) ∙ c .before .before .if4 .left) _ sum (rw (prefix .0)) _ (c .first-state .ensures)
 
 is-fit-requires : tie.Need-is-fit-requires
 is-fit-requires c κs = search needs
@@ -92,10 +103,7 @@ first-state-requires : tie.Need-first-state-requires
 first-state-requires c κs = search needs
 
 grow-requires : tie.Need-grow-requires
-grow-requires c κs =
-    let a = c .before .before .before .before .before .before .before .before .before .before .before .before .args in
-    let past = c .before .before .before .before .before .before .before .before .before in
-    growable _ _ (a .self) _ _ _ _ _ (sum-fits (a .edition) (a .n) (view (a .self)) _ (fit past) (omega (arith, c .before .prefix .ensures .1))) (asked c)
+grow-requires c κs = growable _ _ _ _ _ _ _ _ (asked c)
 
 returns-5 : tie.Need-returns-5
 returns-5 c = (c .grow .ensures .0 ∙ grows _ _ _ _ _ _ _ _ (asked (c .before)), c .grow .ensures .1)

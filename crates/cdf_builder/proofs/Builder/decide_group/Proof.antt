@@ -1,4 +1,5 @@
 -- Each return by its law (proofs/Deciding). `Else1` to `Else3` are the places past the tests.
+use Prim.Native.Nat.{_<_}
 use mathlib.Core.Path.{_≡_, refl, sym, _∙_}
 use mathlib.Core.Bool.{true}
 use native.Mathlib.Omega.{arith}
@@ -19,16 +20,24 @@ fit : (c : tie.Else1) →
     fits (layoutOf (a .edition)) (a .n) (view (a .self)) ≡ true
 fit c = sym (c .before .is-fit .ensures) ∙ not-false (c .before .is-fit .result) (c .if1 .left)
 
+-- A lent slice has less than 2^63 bytes.
+small : (c : tie.Else1) → length (c .before .before .before .args .bytes .now) < 9223372036854775808
+small c = omega arith
+
 -- No rule of its own is broken.
 asked : (c : tie.Else3) →
-    let a = c .before .before .before .before .before .before .before .before .args in
-    let left = c .before .before .join .result in
+    let joined = c .before .before in
+    let a = joined .before .before .before .before .before .before .args in
+    let left = joined .join .result in
     Grows (layoutOf (a .edition)) (a .n) (a .self) (group (a .bytes .now)) (left .count) (left .top) (length (a .bytes .now)) 0
 asked c =
     let joined = c .before .before in
     let past = joined .before in
-    group-grows _ _ _ _ _ (fit (past .before .before)) _ (sym (joined .join .ensures .0) ∙ c .if3 .left) (joined .join .ensures .1) _
-    (past .before .group-id .ensures) (past .if2 .left)
+    let fitted = past .before .before in
+    let fits = fit fitted in
+    let a = fitted .before .before .before .args in
+    group-grows _ _ _ _ _ fits _ (sym (joined .join .ensures .0) ∙ c .if3 .left) (joined .join .ensures .1) _ (past .before .group-id .ensures)
+    (past .if2 .left) (sum-fits (a .edition) _ _ _ fits (omega (arith, small fitted)))
 
 is-fit-requires : tie.Need-is-fit-requires
 is-fit-requires c κs = search needs
@@ -61,10 +70,7 @@ returns-3 c =
     )
 
 grow-requires : tie.Need-grow-requires
-grow-requires c κs =
-    let a = c .before .before .before .before .before .before .before .before .args in
-    let past = c .before .before .before .before .before in
-    growable _ _ (a .self) _ _ _ _ _ (sum-fits (a .edition) (a .n) (view (a .self)) _ (fit past) (omega arith)) (asked c)
+grow-requires c κs = growable _ _ _ _ _ _ _ _ (asked c)
 
 returns-4 : tie.Need-returns-4
 returns-4 c = (c .grow .ensures .0 ∙ grows _ _ _ _ _ _ _ _ (asked (c .before)), c .grow .ensures .1)
