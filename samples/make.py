@@ -7,11 +7,18 @@ RELATION, ORDERED_RELATION, ENTITY_KEY, RELATION_KEY = 9, 10, 11, 12
 NONE, CREATE = 0, 1
 
 
+class Unit(bytes):
+    """A unit's bytes. `requests` has the id, the action and the own data of it and of each unit in it."""
+
+
 def unit(id, action, *parts, length=None):
     """A unit: mark, length, action, id, and then its own data and the units in it. Its length is that of all these bytes."""
     data = b"".join(parts)
     length = 6 + len(data) if length is None else length
-    return b"\xCD\xF1" + length.to_bytes(2, "big") + bytes([action, id]) + data
+    made = Unit(b"\xCD\xF1" + length.to_bytes(2, "big") + bytes([action, id]) + data)
+    own = b"".join(part for part in parts if not isinstance(part, Unit))
+    made.requests = [(id, action, own), *(request for part in parts if isinstance(part, Unit) for request in part.requests)]
+    return made
 
 
 def name(text):

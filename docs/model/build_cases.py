@@ -8,12 +8,14 @@ import re
 import sys
 from pathlib import Path
 
+SAMPLES = Path(__file__).resolve().parent.parent.parent / "samples"
 sys.dont_write_bytecode = True
+sys.path.append(str(SAMPLES))
+import make  # noqa: E402
 from build import EMPTY, SKIPPED, Open, Place, add_stream, finish, next_unit, start  # noqa: E402
 from check import (A, CALL, COMPLETE, FILE, FULL, GROUP, HOME, K1, K2, K12, LINES, N, RULES, STATES, STREAM, TEMPLATE, changed,  # noqa: E402
                    check, nested, own_end, read, unit)
 
-SAMPLES = Path(__file__).resolve().parent.parent.parent / "samples"
 # The number of a unit's first state, as docs/FORMAT.md has them; 0 and 15 are no units, and have numbers that are no states.
 FIRST = {0: 0, 1: 1, 2: 11, 4: 5, 5: 14, 9: 18, 10: 22, 11: 26, 13: 8, 15: 29}
 
@@ -86,10 +88,16 @@ def unit_call(id, action=None, data=None):
     return "N", id, min(RULES[id].actions) if action is None else action, own if data is None else data
 
 
+def building(units):
+    """A start and nexts, of the id, the action and the own data of each unit."""
+    (root, _, _), *others = units
+    return [("S", root), *(("N", *other) for other in others)]
+
+
 def requests(stream):
-    """The start and the nexts that build a stream, or as much of it as is right: id, action and own data of each unit."""
-    (_, _, root, _, _), *units = read(stream)[2]
-    return [("S", root)] + [("N", id, action, stream[at + 6 : own_end(stream, id, at + 6, at + length)]) for at, _, id, action, length in units]
+    """The calls that build a stream, or as much of it as is right."""
+    units = read(stream)[2]
+    return building((id, action, stream[at + 6 : own_end(stream, id, at + 6, at + length)]) for at, _, id, action, length in units)
 
 
 def reach(id, *had):
@@ -121,9 +129,10 @@ def streams():
         yield label, stream, requests(stream), 8
         yield label + "-exact", stream, requests(stream), 0
     family, family_call = ((SAMPLES / name).read_bytes() for name in ("family.cdf", "family-call.cdf"))
-    yield "family", family, requests(family), 8
-    yield "family-call", family_call, requests(family_call), 8
-    yield "family-call-added", family_call, requests(family_call)[:4] + [("A", family)], 8
+    made = make.files()
+    yield "family", family, building(made["family.cdf"].requests), 8
+    yield "family-call", family_call, building(made["family-call.cdf"].requests), 8
+    yield "family-call-added", family_call, building(made["family-call.cdf"].requests)[:4] + [("A", family)], 8
     yield "full", FULL, requests(FULL), 1
     yield "full-exact", FULL, requests(FULL), 0
     yield "full-one-more", unit(13, *LINES), requests(FULL)[:-1] + [unit_call(14, data=b"x" * 3994)], 4000

@@ -1,10 +1,10 @@
--- `cdf_build_cases::put_run` is safe and ends. The slice keeps its length, and the measure is the number of turns left.
+-- `cdf_build_cases::input::put_run` is safe and ends. The slice keeps its length, and the measure is the number of turns left.
 -- Assumes nothing.
 use mathlib.Core.Path.{_≡_}
 use lib.ListN.{length}
 use borrow.Author.Needs.{needs}
-use Rattle.cdf_build_cases.proofs.put_run.Statement.{statement}
-use Rattle.cdf_build_cases.proofs.put_run.Tie as tie
+use Rattle.cdf_build_cases.proofs.input.put_run.Statement.{statement}
+use Rattle.cdf_build_cases.proofs.input.put_run.Tie as tie
 
 abbrev Inv-loop : tie.InvT-loop
 Inv-loop s₀ n count byte end₀ left₀ s end left = length s ≡ length s₀

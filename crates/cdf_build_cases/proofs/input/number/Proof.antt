@@ -1,8 +1,8 @@
--- `cdf_build_cases::number` is safe and ends. Nothing has to hold from turn to turn, and the measure is the number of turns left.
+-- `cdf_build_cases::input::number` is safe and ends. Nothing has to hold from turn to turn, and the measure is the number of turns left.
 -- Assumes nothing.
 use borrow.Author.Needs.{needs}
-use Rattle.cdf_build_cases.proofs.number.Statement.{statement}
-use Rattle.cdf_build_cases.proofs.number.Tie as tie
+use Rattle.cdf_build_cases.proofs.input.number.Statement.{statement}
+use Rattle.cdf_build_cases.proofs.input.number.Tie as tie
 
 abbrev Inv-loop : tie.InvT-loop
 Inv-loop end n₀ left₀ n left = Unit {0}

@@ -1,12 +1,12 @@
--- `cdf_build_cases::changed` meets its contract. The count stays within the slice, and is the measure.
+-- `cdf_build_cases::output::changed` meets its contract. The count stays within the slice, and is the measure.
 -- Assumes nothing.
 use Prim.Native.Nat.{_≤_}
 use lib.ListN.{length}
 use mathlib.Core.Path.{sym}
 use lib.Seq.{length-take-le}
 use borrow.Author.Needs.{needs}
-use Rattle.cdf_build_cases.proofs.changed.Statement.{statement}
-use Rattle.cdf_build_cases.proofs.changed.Tie as tie
+use Rattle.cdf_build_cases.proofs.output.changed.Statement.{statement}
+use Rattle.cdf_build_cases.proofs.output.changed.Tie as tie
 
 abbrev Inv-loop : tie.InvT-loop
 Inv-loop s n₀ n = n ≤ length s

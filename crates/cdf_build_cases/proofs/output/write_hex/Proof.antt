@@ -1,10 +1,10 @@
--- `cdf_build_cases::write_hex` is safe and ends. Nothing has to hold from turn to turn, and the measure is the number of bytes left.
+-- `cdf_build_cases::output::write_hex` is safe and ends. Nothing has to hold from turn to turn, and the measure is the number of bytes left.
 -- Assumes nothing.
 use Prim.Native.Nat.{_-_}
 use lib.ListN.{length}
 use borrow.Author.Needs.{needs}
-use Rattle.cdf_build_cases.proofs.write_hex.Statement.{statement}
-use Rattle.cdf_build_cases.proofs.write_hex.Tie as tie
+use Rattle.cdf_build_cases.proofs.output.write_hex.Statement.{statement}
+use Rattle.cdf_build_cases.proofs.output.write_hex.Tie as tie
 
 abbrev Inv-loop : tie.InvT-loop
 Inv-loop s i₀ i = Unit {0}

@@ -1,10 +1,10 @@
--- `cdf_build_cases::read_data` is safe and ends. The slice keeps its length, and the measure is the number of turns left.
+-- `cdf_build_cases::input::read_data` is safe and ends. The slice keeps its length, and the measure is the number of turns left.
 -- Assumes nothing.
 use mathlib.Core.Path.{_≡_}
 use lib.ListN.{length}
 use borrow.Author.Needs.{needs}
-use Rattle.cdf_build_cases.proofs.read_data.Statement.{statement}
-use Rattle.cdf_build_cases.proofs.read_data.Tie as tie
+use Rattle.cdf_build_cases.proofs.input.read_data.Statement.{statement}
+use Rattle.cdf_build_cases.proofs.input.read_data.Tie as tie
 
 abbrev Inv-loop : tie.InvT-loop
 Inv-loop s₀ n₀ left₀ s n left = length s ≡ length s₀

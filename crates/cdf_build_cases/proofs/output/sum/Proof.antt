@@ -1,10 +1,10 @@
--- `cdf_build_cases::sum` is safe and ends. The sum stays below the prime, and the measure is the number of bytes left.
+-- `cdf_build_cases::output::sum` is safe and ends. The sum stays below the prime, and the measure is the number of bytes left.
 -- Assumes nothing.
 use Prim.Native.Nat.{_-_, _<_}
 use lib.ListN.{length}
 use borrow.Author.Needs.{needs}
-use Rattle.cdf_build_cases.proofs.sum.Statement.{statement}
-use Rattle.cdf_build_cases.proofs.sum.Tie as tie
+use Rattle.cdf_build_cases.proofs.output.sum.Statement.{statement}
+use Rattle.cdf_build_cases.proofs.output.sum.Tie as tie
 
 abbrev Inv-loop : tie.InvT-loop
 Inv-loop s h₀ i₀ h i = h < 4294967291
