@@ -20,7 +20,7 @@ use Rattle.cdf_build.specs.Place.{BuilderPlace}
 use Rattle.cdf_build.proofs.Replying.{bytes-unit}
 use Rattle.cdf_builder.specs.View.{view, decisionOf, replyOf}
 use Rattle.cdf_builder.specs.declared.Built.{Built}
-use Rattle.cdf_builder.proofs.Deciding.{decided-done, told}
+use Rattle.cdf_builder.proofs.Decided.{decided-done, told}
 
 -- An id that is known and an action that is allowed are bytes.
 pub id-byte : (id : ℕ) → known id ≡ true → id % 256 ≡ id

@@ -16,7 +16,7 @@ use Rattle.cdf_builder.specs.View.{view, decisionOf}
 use Rattle.cdf_builder.specs.Grown.{Growable}
 use Rattle.cdf_builder.specs.declared.Builder.{Builder}
 use Rattle.cdf_builder.specs.declared.Built.{Built}
-use Rattle.cdf_builder.proofs.Deciding.{decided, decided-done, Grows}
+use Rattle.cdf_builder.proofs.Decided.{decided, decided-done, Grows}
 
 few : (l : Layout) (n : ℕ) (p : BuilderPlace) (r : Request) → callNumber l n p r ≡ 0 → length (grown l p r .units) ≤ 4
 few l n p r e = proved .four l n (grown l p r) (next-fits l n p r e)

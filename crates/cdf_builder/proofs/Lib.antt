@@ -1,6 +1,6 @@
 pub mod Entered
-pub mod Writing
-pub mod Deciding
+pub mod Lengths
+pub mod Decided
 pub mod Few
 pub mod Calling
 pub mod Proved

@@ -1,34 +1,27 @@
 // The builder: a place goes in with each call and a new one comes back; the buffer is lent.
 ghost use mathlib.Core.Path.{_≡_};
 ghost use mathlib.Core.List.{[]};
-ghost use Prim.Native.Nat.{_+_, _-_, _≤_, _<_};
-ghost use lib.ListN.{length, drop};
+ghost use Prim.Native.Nat.{_<_};
+ghost use lib.ListN.{length};
 ghost use Rattle.cdf_prefix.specs.Layout.{layoutOf};
 ghost use Rattle.cdf_prefix.specs.declared.Edition.the-variants.{First};
-ghost use Rattle.cdf_grammar.specs.Encoding.{bytesOf, unitBytes};
-ghost use Rattle.cdf_write.specs.Patch.{patch};
-ghost use Rattle.cdf_build.specs.Place.{standing, fits};
-ghost use Rattle.cdf_build.specs.Requests.{unit, group, joining, joined, advanced};
-ghost use Rattle.cdf_build.specs.Calls.{lengths, startOf, decideOf, writeOf, callOf, finishOf};
-ghost use Rattle.cdf_join.specs.Parts.{noBegun, units};
+ghost use Rattle.cdf_build.specs.Requests.{unit, group};
+ghost use Rattle.cdf_build.specs.Calls.{startOf, decideOf, callOf, finishOf};
+ghost use Rattle.cdf_join.specs.Parts.{noBegun};
 ghost use Rattle.cdf_builder.specs.View.{view, decisionOf, replyOf, finishedOf, noBuilder};
-ghost use Rattle.cdf_builder.specs.Grown.{grownBy, Growable, growing};
 use cdf_build::Begun;
-use cdf_build_fit::fits;
-use cdf_join::Joined;
-use cdf_join::group_id;
 use cdf_join::is_completed;
-use cdf_join::join;
-use cdf_join::own_fault;
-use cdf_join::room;
 use cdf_prefix::Edition;
 use cdf_prefix::prefix;
 use cdf_table::first_state;
 use cdf_table::is_known;
 use cdf_table::is_root_kind;
-use cdf_write::write_bytes;
-use cdf_write::write_length;
 use cdf_write::write_unit;
+use writing::write;
+use writing::write_group;
+
+mod deciding;
+mod writing;
 
 // Where a builder is: how many bytes are written; how many units are open, `top` the innermost of them and `o1` to `o3` those around
 // it, from the outermost inwards. Which place of the format this is, its view says: units that the count does not reach do not matter.
@@ -74,240 +67,7 @@ fn no_builder() -> Builder
     }
 }
 
-// Writes the length of an open unit, from its start to where the writing stands.
-fn write_open(edition: Edition, buffer: &mut [u8], written: usize, o: Begun)
-    ensures { λ r. ⌜ now (buffer .exit) ≡ patch (o .start + 2) (bytesOf (layoutOf edition .lengthBytes) (written - o .start)) (now (buffer .entry)) ⌝ }
-{
-    if written < o.start {
-        write_length(edition, buffer, o.start, 0);
-        return;
-    }
-    write_length(edition, buffer, o.start, written - o.start);
-}
-
-// Writes the lengths of the units around the innermost one, from the outermost inwards.
-fn rewrite_around(edition: Edition, buffer: &mut [u8], p: Builder)
-    requires { ⌜ p .count ≤ 4 ⌝ }
-    ensures { λ r. ⌜ now (buffer .exit) ≡ lengths (layoutOf edition) (drop 1 (standing (view p))) (now (buffer .entry)) ⌝ }
-{
-    let o1 = p.o1;
-    let o2 = p.o2;
-    let o3 = p.o3;
-    if p.count < 2 {
-        return;
-    }
-    write_open(edition, buffer, p.written, o1);
-    if p.count == 2 {
-        return;
-    }
-    write_open(edition, buffer, p.written, o2);
-    if p.count == 3 {
-        return;
-    }
-    write_open(edition, buffer, p.written, o3);
-}
-
-// Writes the lengths of all open units.
-fn rewrite(edition: Edition, buffer: &mut [u8], p: Builder)
-    requires { ⌜ p .count ≤ 4 ⌝ }
-    ensures { λ r. ⌜ now (buffer .exit) ≡ lengths (layoutOf edition) (standing (view p)) (now (buffer .entry)) ⌝ }
-{
-    if p.count == 0 {
-        return;
-    }
-    let top = p.top;
-    rewrite_around(edition, buffer, p);
-    write_open(edition, buffer, p.written, top);
-}
-
-// Writes a unit at a position, and then the lengths of the units that are open at a place.
-fn write(
-    edition: Edition,
-    buffer: &mut [u8],
-    at: usize,
-    p: Builder,
-    id: u8,
-    action: u8,
-    data: &[u8],
-)
-    requires { ⌜ p .count ≤ 4 ⌝ }
-    ensures { λ r. ⌜ now (buffer .exit)
-        ≡ writeOf (layoutOf edition) at (view p) (unitBytes (layoutOf edition) id action (now («data» .entry)) []) (now (buffer .entry)) ⌝ }
-{
-    write_unit(edition, buffer, at, id, action, data);
-    rewrite(edition, buffer, p);
-}
-
-// The same for the bytes of a group.
-fn write_group(edition: Edition, buffer: &mut [u8], at: usize, p: Builder, bytes: &[u8])
-    requires { ⌜ p .count ≤ 4 ⌝ }
-    ensures { λ r. ⌜ now (buffer .exit) ≡ writeOf (layoutOf edition) at (view p) (now (bytes .entry)) (now (buffer .entry)) ⌝ }
-{
-    write_bytes(buffer, at, bytes);
-    rewrite(edition, buffer, p);
-}
-
 impl Builder {
-    // Whether the place could belong to a buffer of n bytes.
-    fn is_fit(self, edition: Edition, n: usize) -> bool
-        ensures { λ r. ⌜ r ≡ fits (layoutOf edition) n (view self) ⌝ }
-    {
-        let top = self.top;
-        let o1 = self.o1;
-        let o2 = self.o2;
-        let o3 = self.o3;
-        fits(edition, n, self.written, self.count, top, o1, o2, o3)
-    }
-
-    // Where a unit of this id joins.
-    fn join(self, id: usize) -> Joined
-        ensures number { λ r. ⌜ r .number ≡ joined (view self .units) id 0 ⌝ }
-        ensures left { λ r. ⌜ units (r .count) (r .top) (self .o1) (self .o2) (self .o3) ≡ advanced id (joining id (view self .units)) ⌝ }
-    {
-        let top = self.top;
-        let o1 = self.o1;
-        let o2 = self.o2;
-        let o3 = self.o3;
-        join(id, self.count, top, o1, o2, o3)
-    }
-
-    // The place with so many bytes more: of the units left open, and the new one in its first state, if that is not 0.
-    fn enter(self, left: Joined, size: usize, first: usize) -> Builder
-        requires { ⌜ (self .written + size < 18446744073709551616) × ((first ≡ 0 → ⊥) → (1 ≤ left .count) × (left .count ≤ 3)) ⌝ }
-        ensures { λ r. ⌜ view r ≡ grownBy self (left .count) (left .top) size first ⌝ }
-    {
-        let written = self.written + size;
-        let count = left.count;
-        let outer = left.top;
-        let o1 = self.o1;
-        let o2 = self.o2;
-        let o3 = self.o3;
-        if first == 0 {
-            return Builder {
-                written,
-                count,
-                top: outer,
-                o1,
-                o2,
-                o3,
-            };
-        }
-        let inner = Begun {
-            state: first,
-            start: self.written,
-        };
-        if count == 1 {
-            return Builder {
-                written,
-                count: 2,
-                top: inner,
-                o1: outer,
-                o2,
-                o3,
-            };
-        }
-        if count == 2 {
-            return Builder {
-                written,
-                count: 3,
-                top: inner,
-                o1,
-                o2: outer,
-                o3,
-            };
-        }
-        Builder {
-            written,
-            count: 4,
-            top: inner,
-            o1,
-            o2,
-            o3: outer,
-        }
-    }
-
-    // 13, 12, and else the place with so many bytes more.
-    fn grow(self, edition: Edition, n: usize, left: Joined, size: usize, first: usize) -> Built
-        requires { ⌜ Growable (layoutOf edition) n self (left .count) size first ⌝ }
-        ensures is { λ r. ⌜ decisionOf r ≡ growing (layoutOf edition) n self (left .count) (left .top) size first ⌝ }
-        ensures kept { λ r. ⌜ ((r .number ≡ 0 → ⊥) → r .place ≡ self) ⌝ }
-    {
-        let number = room(edition, n, self.written + size);
-        if number != 0 {
-            return Built {
-                number,
-                place: self,
-            };
-        }
-        let place = self.enter(left, size, first);
-        Built { number: 0, place }
-    }
-
-    // What NEXT will answer with a buffer of n bytes, and the place then: 2, 6, 7, 10, 8, 9, 13, 12.
-    fn decide_as(self, edition: Edition, n: usize, id: usize, action: usize, data: &[u8]) -> Built
-        ensures is { λ r. ⌜ decisionOf r
-            ≡ decideOf (layoutOf edition) n (view self) (unit (record { id = id; action = action; text = now («data» .entry) })) ⌝ }
-        ensures kept { λ r. ⌜ ((r .number ≡ 0 → ⊥) → r .place ≡ self) ⌝ }
-    {
-        if !self.is_fit(edition, n) {
-            return Built {
-                number: 2,
-                place: self,
-            };
-        }
-        if !is_known(id) {
-            return Built {
-                number: 6,
-                place: self,
-            };
-        }
-        let left = self.join(id);
-        if left.number != 0 {
-            return Built {
-                number: left.number,
-                place: self,
-            };
-        }
-        let fault = own_fault(id, action, data);
-        if fault != 0 {
-            return Built {
-                number: fault,
-                place: self,
-            };
-        }
-        let size = prefix(edition) + data.len();
-        let first = first_state(id);
-        self.grow(edition, n, left, size, first)
-    }
-
-    // The same for ADD_STREAM: 2, 14, 7, 10, 13, 12.
-    fn decide_group(self, edition: Edition, n: usize, bytes: &[u8]) -> Built
-        ensures is { λ r. ⌜ decisionOf r ≡ decideOf (layoutOf edition) n (view self) (group (now (bytes .entry))) ⌝ }
-        ensures kept { λ r. ⌜ ((r .number ≡ 0 → ⊥) → r .place ≡ self) ⌝ }
-    {
-        if !self.is_fit(edition, n) {
-            return Built {
-                number: 2,
-                place: self,
-            };
-        }
-        let id = group_id(edition, bytes);
-        if id == 0 {
-            return Built {
-                number: 14,
-                place: self,
-            };
-        }
-        let left = self.join(id);
-        if left.number != 0 {
-            return Built {
-                number: left.number,
-                place: self,
-            };
-        }
-        self.grow(edition, n, left, bytes.len(), 0)
-    }
-
     // NEXT for streams of this edition: what is decided, and where that is 0, the bytes.
     fn next_as(
         self,

@@ -1,139 +1,144 @@
-// The reader's calls for programs in C. A place is 20 numbers and an answer 8.
+// The reader's calls for programs in C, and a run of them.
 ghost use mathlib.Core.Path.{_≡_};
-ghost use mathlib.Core.Bool.{cond};
-ghost use Rattle.cdf_prefix.specs.Layout.{layoutOf};
-ghost use Rattle.cdf_prefix.specs.declared.Edition.the-variants.{First};
-ghost use Rattle.cdf_place.specs.Calls.{firstOf};
-ghost use Rattle.cdf_reader.specs.View.{replyOf};
-ghost use Rattle.cdf_c_reader.specs.Numbers.{placeFrom, numbersOf, replyNumbers, nextFrom, Started, Moved};
-use cdf_reader::Answer;
-use cdf_reader::Place;
-use cdf_reader::first;
-use cdf_units::Open;
-use cdf_units::Unit;
+ghost use mathlib.Core.List.{_++_};
+ghost use Prim.Native.Nat.{_*_, _≤_};
+ghost use lib.ListN.{length, drop};
+ghost use Rattle.cdf_place.specs.Calls.{noPart, abnormalEnd};
+ghost use Rattle.cdf_place.specs.declared.Call.the-variants.{Start, Next, Skip, GetStream, Previous};
+ghost use Rattle.cdf_reader.specs.View.{noPlace};
+ghost use Rattle.cdf_numbers.specs.Numbers.{numbersOf, answerNumbers, Called};
+ghost use Rattle.cdf_c_reader.specs.Replay.{knownCode, callBy, entryFrom, ranOf, logAfter, Replayed};
+use cdf_numbers::answer_to;
+use cdf_place::Call;
 
-// The place that the numbers are.
-fn place_from(a: &[u64; 20]) -> Place
-    ensures { λ r. ⌜ r ≡ placeFrom (now (a .entry)) ⌝ }
+// FIRST: judges the root and hands it out. A refused one writes 20 zeros as the place.
+#[no_mangle]
+pub extern "C" fn cdf_first(s: &[u8], place: &mut [u64; 20], answer: &mut [u64; 8]) -> u64
+    ensures { λ r. ⌜ Called Start (now (s .entry)) (now (place .entry)) r (now (place .exit)) (now (answer .exit)) ⌝ }
 {
-    let top = Open {
-        state: a[2] as usize,
-        start: a[3] as usize,
-        end: a[4] as usize,
-    };
-    let o1 = Open {
-        state: a[5] as usize,
-        start: a[6] as usize,
-        end: a[7] as usize,
-    };
-    let o2 = Open {
-        state: a[8] as usize,
-        start: a[9] as usize,
-        end: a[10] as usize,
-    };
-    let o3 = Open {
-        state: a[11] as usize,
-        start: a[12] as usize,
-        end: a[13] as usize,
-    };
-    let last = Unit {
-        id: a[14] as usize,
-        action: a[15] as usize,
-        start: a[16] as usize,
-        own: a[17] as usize,
-        end: a[18] as usize,
-    };
-    Place {
-        position: a[0] as usize,
-        count: a[1] as usize,
-        top,
-        o1,
-        o2,
-        o3,
-        last,
-        fresh: a[19] != 0,
-    }
+    answer_to(Call::Start, s, place, answer)
 }
 
-// 1 is on, 0 is off.
-fn flag(on: bool) -> u64
-    ensures { λ r. ⌜ r ≡ cond on 1 0 ⌝ }
+// NEXT: hands out the next unit.
+#[no_mangle]
+pub extern "C" fn cdf_next(s: &[u8], place: &mut [u64; 20], answer: &mut [u64; 8]) -> u64
+    ensures { λ r. ⌜ Called Next (now (s .entry)) (now (place .entry)) r (now (place .exit)) (now (answer .exit)) ⌝ }
 {
-    if on {
-        return 1;
-    }
+    answer_to(Call::Next, s, place, answer)
+}
+
+// SKIP: passes the last unit with all that is in it.
+#[no_mangle]
+pub extern "C" fn cdf_skip(s: &[u8], place: &mut [u64; 20], answer: &mut [u64; 8]) -> u64
+    ensures { λ r. ⌜ Called Skip (now (s .entry)) (now (place .entry)) r (now (place .exit)) (now (answer .exit)) ⌝ }
+{
+    answer_to(Call::Skip, s, place, answer)
+}
+
+// GET_STREAM: the same for a group, whose bytes are the part.
+#[no_mangle]
+pub extern "C" fn cdf_get_stream(s: &[u8], place: &mut [u64; 20], answer: &mut [u64; 8]) -> u64
+    ensures { λ r. ⌜ Called GetStream (now (s .entry)) (now (place .entry)) r (now (place .exit)) (now (answer .exit)) ⌝ }
+{
+    answer_to(Call::GetStream, s, place, answer)
+}
+
+// PREVIOUS: hands out the last unit again.
+#[no_mangle]
+pub extern "C" fn cdf_previous(s: &[u8], place: &mut [u64; 20], answer: &mut [u64; 8]) -> u64
+    ensures { λ r. ⌜ Called Previous (now (s .entry)) (now (place .entry)) r (now (place .exit)) (now (answer .exit)) ⌝ }
+{
+    answer_to(Call::Previous, s, place, answer)
+}
+
+// ABNORMAL_END: gives the reading up. 0, and zeros in the place and in the answer.
+#[no_mangle]
+pub extern "C" fn cdf_abnormal_end(s: &[u8], place: &mut [u64; 20], answer: &mut [u64; 8]) -> u64
+    ensures { λ r. ⌜ (r ≡ 0) × (now (place .exit) ≡ numbersOf noPlace) × (now (answer .exit) ≡ answerNumbers abnormalEnd noPart) ⌝ }
+{
+    *place = [0; 20];
+    *answer = [0; 8];
     0
 }
 
-// Writes the numbers of a place.
-fn write_place(p: Place, a: &mut [u64; 20])
-    ensures { λ r. ⌜ now (a .exit) ≡ numbersOf p ⌝ }
+// Whether it is the code of a call.
+fn is_known(code: u8) -> bool
+    ensures { λ r. ⌜ r ≡ knownCode code ⌝ }
 {
-    let fresh = flag(p.fresh);
-    *a = [
-        p.position as u64,
-        p.count as u64,
-        p.top.state as u64,
-        p.top.start as u64,
-        p.top.end as u64,
-        p.o1.state as u64,
-        p.o1.start as u64,
-        p.o1.end as u64,
-        p.o2.state as u64,
-        p.o2.start as u64,
-        p.o2.end as u64,
-        p.o3.state as u64,
-        p.o3.start as u64,
-        p.o3.end as u64,
-        p.last.id as u64,
-        p.last.action as u64,
-        p.last.start as u64,
-        p.last.own as u64,
-        p.last.end as u64,
-        fresh,
-    ];
+    (1 <= code) & (code <= 5)
 }
 
-// Writes the numbers of an answer.
-fn write_answer(r: Answer, a: &mut [u64; 8])
-    ensures { λ u. ⌜ now (a .exit) ≡ replyNumbers (replyOf r) ⌝ }
+// The call of a known code.
+fn call_by(code: u8) -> Call
+    ensures { λ r. ⌜ r ≡ callBy code ⌝ }
 {
-    *a = [
-        r.offset as u64,
-        r.unit.id as u64,
-        r.unit.action as u64,
-        r.unit.start as u64,
-        r.unit.own as u64,
-        r.unit.end as u64,
-        0,
-        0,
-    ];
-}
-
-// FIRST: the number; the place's numbers and the answer's are written always, the place's as zeros where the start is refused.
-#[no_mangle]
-pub extern "C" fn cdf_first(s: &[u8], place: &mut [u64; 20], answer: &mut [u64; 8]) -> u64
-    ensures { λ r. ⌜ Started (firstOf (layoutOf First) (now (s .entry))) r (now (place .exit)) (now (answer .exit)) ⌝ }
-{
-    let a = first(s);
-    write_answer(a, answer);
-    let q = a.place;
-    write_place(q, place);
-    a.number as u64
-}
-
-// NEXT: the number; the answer's numbers are written always, the place's where the number is 0.
-#[no_mangle]
-pub extern "C" fn cdf_next(s: &[u8], place: &mut [u64; 20], answer: &mut [u64; 8]) -> u64
-    ensures { λ r. ⌜ Moved (nextFrom (now (s .entry)) (now (place .entry))) (now (place .entry)) r (now (place .exit)) (now (answer .exit)) ⌝ }
-{
-    let p = place_from(place);
-    let a = p.next(s);
-    write_answer(a, answer);
-    if a.number != 0 {
-        return a.number as u64;
+    if code == 1 {
+        return Call::Start;
     }
-    let q = a.place;
-    write_place(q, place);
+    if code == 2 {
+        return Call::Next;
+    }
+    if code == 3 {
+        return Call::Skip;
+    }
+    if code == 4 {
+        return Call::GetStream;
+    }
+    Call::Previous
+}
+
+// Writes an entry to the front of what is left of the log.
+fn write_entry(tail: &mut [u64], number: u64, answer: &[u64; 8])
+    requires { ⌜ 9 ≤ length (now tail) ⌝ }
+    ensures { λ r. ⌜ now (tail .exit) ≡ entryFrom number (now (answer .entry)) ++ drop 9 (now (tail .entry)) ⌝ }
+{
+    tail[0] = number;
+    tail[1] = answer[0];
+    tail[2] = answer[6];
+    tail[3] = answer[7];
+    tail[4] = answer[1];
+    tail[5] = answer[2];
+    tail[6] = answer[3];
+    tail[7] = answer[4];
+    tail[8] = answer[5];
+}
+
+// Runs the calls one after the other, and writes an entry for each.
+fn run(s: &[u8], calls: &[u8], log: &mut [u64]) -> usize
+    requires { ⌜ 9 * length (now calls) ≤ length (now log) ⌝ }
+    ensures count { λ r. ⌜ r ≡ length (ranOf (now (s .entry)) (now (calls .entry))) ⌝ }
+    ensures written { λ r. ⌜ now (log .exit) ≡ logAfter (ranOf (now (s .entry)) (now (calls .entry))) (now (log .entry)) ⌝ }
+{
+    let mut place = [0; 20];
+    let mut answer = [0; 8];
+    let mut k = 0;
+    let mut at = 0;
+    while k < calls.len() {
+        let code = calls[k];
+        if !is_known(code) {
+            return k;
+        }
+        let call = call_by(code);
+        let number = answer_to(call, s, &mut place, &mut answer);
+        let end = log.len();
+        write_entry(&mut log[at..end], number, &answer);
+        k = k + 1;
+        at = at + 9;
+    }
+    k
+}
+
+// A run of calls, by their codes: 1 start, 2 NEXT, 3 SKIP, 4 GET_STREAM, 5 PREVIOUS; a code that is none of these ends it. 12 if
+// the log could not hold an entry for each of them; else 0, and the answer is the number of entries.
+#[no_mangle]
+pub extern "C" fn cdf_replay(s: &[u8], calls: &[u8], log: &mut [u64], answer: &mut [u64; 1]) -> u64
+    ensures { λ r. ⌜ Replayed (now (s .entry)) (now (calls .entry)) (now (log .entry)) r (now (log .exit)) (now (answer .exit)) ⌝ }
+{
+    if log.len() / 9 < calls.len() {
+        *answer = [0];
+        return 12;
+    }
+    let count = run(s, calls, log);
+    *answer = [count as u64];
     0
 }

@@ -12,6 +12,8 @@ use Rattle.cdf_units.specs.Stack.{Step, done, refused, found, entered, withStat
 use Rattle.cdf_units.specs.declared.Unit.{Unit}
 use Rattle.cdf_units.specs.declared.Open.{Open}
 use Rattle.cdf_place.specs.Place.{ReaderPlace, isEmpty, fits}
+use Rattle.cdf_place.specs.declared.Call.{Call}
+use Rattle.cdf_place.specs.declared.Call.the-variants.{Start, Next, Skip, GetStream, Previous}
 
 -- A call's number and offset, the unit handed out, and the new place.
 pub record Reply : Type 0 where
@@ -98,12 +100,15 @@ pub record Part : Type 0 where
   pub start : ℕ
   pub size : ℕ
 
+abbrev pub noPart : Part
+noPart = record { start = 0; size = 0 }
+
 -- Beside any other number: the empty part at the front.
 unfoldable pub partOf : Layout → List ℕ → ReaderPlace → Part
 unfolding takeOf
 partOf l s p =
     cond (eqb (takeOf l s p .number) 0) (record { start = p .last .start; size = p .last .end - p .last .start })
-    (record { start = 0; size = 0 })
+    noPart
 
 -- PREVIOUS: the last unit again; the place stays.
 unfoldable pub previousOf : Layout → List ℕ → ReaderPlace → Reply
@@ -111,3 +116,21 @@ unfolding isEmpty fits
 previousOf l s p =
     cond (isEmpty p) (refuse 11 0 p)
     (cond (not (fits l (length s) p)) (refuse 2 0 p) (record { number = 0; offset = 0; unit = p .last; place = p }))
+
+-- Each call by its name, on a place; a start needs none.
+unfoldable pub callOf : Layout → List ℕ → ReaderPlace → Call → Reply
+unfolding firstOf nextOf skipOf takeOf previousOf
+callOf l s p Start = firstOf l s
+callOf l s p Next = nextOf l s p
+callOf l s p Skip = skipOf l s p
+callOf l s p GetStream = takeOf l s p
+callOf l s p Previous = previousOf l s p
+
+-- Only GET_STREAM takes a part.
+unfoldable pub partTaken : Layout → List ℕ → ReaderPlace → Call → Part
+unfolding partOf
+partTaken l s p Start = noPart
+partTaken l s p Next = noPart
+partTaken l s p Skip = noPart
+partTaken l s p GetStream = partOf l s p
+partTaken l s p Previous = noPart

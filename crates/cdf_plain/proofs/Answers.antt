@@ -18,17 +18,18 @@ use Rattle.cdf_units.proofs.Few.{Further, unit-further, step-further}
 use Rattle.cdf_grammar.proofs.Items.{EachUnit}
 use Rattle.cdf_judge.specs.Judge.{judgeOf}
 use Rattle.cdf_place.specs.Place.{ReaderPlace, isEmpty, fits}
-use Rattle.cdf_place.specs.Calls.{Reply, Part, emptyPlace, refuse, stepped, untouched, skippedTop, passed, passing, isGroup}
-use Rattle.cdf_place.specs.Calls.{nextOf, skipOf, takeOf, partOf, previousOf}
+use Rattle.cdf_place.specs.Calls.{Reply, Part, emptyPlace, refuse, stepped, untouched, skippedTop, passed, passing, isGroup, noPart}
+use Rattle.cdf_place.specs.Calls.{nextOf, skipOf, takeOf, partOf, previousOf, callOf, partTaken}
 use Rattle.cdf_place.proofs.Fitting.{fitting}
 use Rattle.cdf_place.proofs.Replying.{start as startStep, first-is}
 use Rattle.cdf_runs.proofs.Around.{lies}
 use Rattle.cdf_runs.proofs.Keeps.{Keeps, first-keeps, next-keeps}
 use Rattle.cdf_runs.proofs.Replies.{next-is}
 use Rattle.cdf_runs.proofs.Steps.{Run, ends, breaks, hands}
-use Rattle.cdf_plain.specs.Calls.{Call, start, next, skip, getStream, previous, noPart, handing}
+use Rattle.cdf_place.specs.declared.Call.{Call}
+use Rattle.cdf_place.specs.declared.Call.the-variants.{Start, Next, Skip, GetStream, Previous}
+use Rattle.cdf_plain.specs.Calls.{handing}
 use Rattle.cdf_plain.specs.Plain.{State, Turn, startingAt, handOut, followers, plainAnswer}
-use Rattle.cdf_plain.specs.Runs.{callOf, partTaken}
 use Rattle.cdf_plain.proofs.Skipped.{skipped-complete, group-opens}
 use Rattle.cdf_place.proofs.Replying.{passing-tests, skip-is, take-is, part-is, previous-tests}
 use Rattle.cdf_plain.proofs.Passing.{top, passed-fits}
@@ -105,7 +106,7 @@ module _ (l : Layout) (s : List ℕ) (all : List Unit) (P : Unit → Type 0) whe
   module _ (each : EachUnit P all) where
     -- A start hands out the first of all units, whatever was before.
     pub start-same : Run l s (startStep l s) all ended → (all ≡ [] → ⊥) → (p : ReaderPlace) (st : State) →
-        Same (callOf l s p start) (partTaken l s p start) (plainAnswer all st start)
+        Same (callOf l s p Start) (partTaken l s p Start) (plainAnswer all st Start)
     start-same run some p st =
         of-made (start-made l s p all st)
         (rw first-is
@@ -215,11 +216,11 @@ module _ (l : Layout) (s : List ℕ) (all : List Unit) (P : Unit → Type 0) whe
       where
         calls : (us : List Unit) (fresh : Bool) → Belongs p us fresh → (c : Call) →
             Same (callOf l s p c) (partTaken l s p c) (plainAnswer all (record { units = p .last ∷ us; fresh = fresh }) c)
-        calls us fresh b start = start-same run some p (record { units = p .last ∷ us; fresh = fresh })
-        calls us fresh b next = of-made (next-made l s p all (p .last) us fresh) (next-same p us fresh b)
-        calls us fresh b skip = of-made (skip-made l s p all (p .last) us fresh) (skip-same p us fresh b)
-        calls us fresh b getStream = of-made (take-made l s p all (p .last) us fresh) (take-same p us fresh b)
-        calls us fresh b previous = of-made (previous-made l s p all (p .last) us fresh) (previous-same p us fresh b)
+        calls us fresh b Start = start-same run some p (record { units = p .last ∷ us; fresh = fresh })
+        calls us fresh b Next = of-made (next-made l s p all (p .last) us fresh) (next-same p us fresh b)
+        calls us fresh b Skip = of-made (skip-made l s p all (p .last) us fresh) (skip-same p us fresh b)
+        calls us fresh b GetStream = of-made (take-made l s p all (p .last) us fresh) (take-same p us fresh b)
+        calls us fresh b Previous = of-made (previous-made l s p all (p .last) us fresh) (previous-same p us fresh b)
 
         go : (us : List Unit) (fresh : Bool) → At p us fresh → (c : Call) →
             Same (callOf l s p c) (partTaken l s p c) (plainAnswer all (record { units = us; fresh = fresh }) c)

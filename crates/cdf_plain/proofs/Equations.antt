@@ -8,10 +8,12 @@ use Rattle.cdf_table.specs.States.{opens}
 use Rattle.cdf_prefix.specs.Layout.{Layout}
 use Rattle.cdf_units.specs.declared.Unit.{Unit}
 use Rattle.cdf_place.specs.Place.{ReaderPlace}
-use Rattle.cdf_place.specs.Calls.{Reply, Part, noUnit, isGroup, firstOf, nextOf, skipOf, takeOf, partOf, previousOf}
-use Rattle.cdf_plain.specs.Calls.{Call, start, next, skip, getStream, previous, Told, noPart, handing, saying}
+use Rattle.cdf_place.specs.Calls.{Reply, Part, noUnit, isGroup, firstOf, nextOf, skipOf, takeOf, partOf, previousOf, noPart, callOf, partTaken}
+use Rattle.cdf_place.specs.declared.Call.{Call}
+use Rattle.cdf_place.specs.declared.Call.the-variants.{Start, Next, Skip, GetStream, Previous}
+use Rattle.cdf_plain.specs.Calls.{Told, handing, saying}
 use Rattle.cdf_plain.specs.Plain.{State, Turn, handOut, followers, answerAt, answerFrom, plainAnswer}
-use Rattle.cdf_plain.specs.Runs.{callOf, partTaken, tells, readerRun, placeAfter, plainRun, stateAfter}
+use Rattle.cdf_plain.specs.Runs.{tells, readerRun, placeAfter, plainRun, stateAfter}
 
 -- What is told of a reply and a part.
 abbrev pub telling : Reply → Part → Told
@@ -35,12 +37,12 @@ pub record Made (l : Layout) (s : List ℕ) (p : ReaderPlace) (all : List Unit) 
 
 module _ (l : Layout) (s : List ℕ) (p : ReaderPlace) (all : List Unit) where
   -- A start may be made in any state.
-  pub start-made : (st : State) → Made l s p all st start (firstOf l s) noPart (handOut st all)
+  pub start-made : (st : State) → Made l s p all st Start (firstOf l s) noPart (handOut st all)
   unfolding callOf partTaken plainAnswer
   start-made st = record { reply = refl; taken = refl; turned = go (st .units) }
     where
       go : (us : List Unit) →
-          plainAnswer all (record { units = us; fresh = st .fresh }) start ≡ handOut (record { units = us; fresh = st .fresh }) all
+          plainAnswer all (record { units = us; fresh = st .fresh }) Start ≡ handOut (record { units = us; fresh = st .fresh }) all
       go [] = refl
       go (u ∷ us) = refl
 
@@ -49,20 +51,20 @@ module _ (l : Layout) (s : List ℕ) (p : ReaderPlace) (all : List Unit) where
     abbrev now : State
     now = record { units = u ∷ us; fresh = fresh }
 
-    pub next-made : Made l s p all now next (nextOf l s p) noPart (handOut now (followers all u us fresh))
+    pub next-made : Made l s p all now Next (nextOf l s p) noPart (handOut now (followers all u us fresh))
     unfolding callOf partTaken plainAnswer
     next-made = record { reply = refl; taken = refl; turned = refl }
 
-    pub skip-made : Made l s p all now skip (skipOf l s p) noPart (pass (fresh && opens (u .id)) noPart (u ∷ us) fresh)
+    pub skip-made : Made l s p all now Skip (skipOf l s p) noPart (pass (fresh && opens (u .id)) noPart (u ∷ us) fresh)
     unfolding callOf partTaken plainAnswer
     skip-made = record { reply = refl; taken = refl; turned = refl }
 
-    pub take-made : Made l s p all now getStream (takeOf l s p) (partOf l s p)
+    pub take-made : Made l s p all now GetStream (takeOf l s p) (partOf l s p)
         (pass (fresh && isGroup (u .id)) (record { start = u .start; size = u .end - u .start }) (u ∷ us) fresh)
     unfolding callOf partTaken plainAnswer
     take-made = record { reply = refl; taken = refl; turned = refl }
 
-    pub previous-made : Made l s p all now previous (previousOf l s p) noPart (turn (handing u) (u ∷ us) fresh)
+    pub previous-made : Made l s p all now Previous (previousOf l s p) noPart (turn (handing u) (u ∷ us) fresh)
     unfolding callOf partTaken plainAnswer
     previous-made = record { reply = refl; taken = refl; turned = refl }
 
@@ -105,7 +107,7 @@ module _ (all : List Unit) (st : State) where
 
 -- A next of the plain reader at a unit.
 pub next-plain : (all : List Unit) (u : Unit) (us : List Unit) (fresh : Bool) →
-    plainAnswer all (record { units = u ∷ us; fresh = fresh }) next .told
+    plainAnswer all (record { units = u ∷ us; fresh = fresh }) Next .told
     ≡ handOut (record { units = u ∷ us; fresh = fresh }) (followers all u us fresh) .told
 unfolding plainAnswer answerFrom answerAt
 next-plain all u us fresh = refl
@@ -115,6 +117,6 @@ pub tells-is : (l : Layout) (s : List ℕ) (p : ReaderPlace) (c : Call) → tell
 unfolding tells
 tells-is l s p c = refl
 
-pub next-number : (l : Layout) (s : List ℕ) (p : ReaderPlace) → tells l s p next .number ≡ nextOf l s p .number
+pub next-number : (l : Layout) (s : List ℕ) (p : ReaderPlace) → tells l s p Next .number ≡ nextOf l s p .number
 unfolding tells callOf
 next-number l s p = refl

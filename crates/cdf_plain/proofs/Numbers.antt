@@ -7,8 +7,10 @@ use lib.ListN.{getD}
 use Rattle.cdf_table.specs.States.{opens}
 use Rattle.cdf_table.proofs.Bools.{of-cond}
 use Rattle.cdf_units.specs.declared.Unit.{Unit}
-use Rattle.cdf_place.specs.Calls.{Part, isGroup}
-use Rattle.cdf_plain.specs.Calls.{Call, start, next, skip, getStream, previous, Told, noPart}
+use Rattle.cdf_place.specs.Calls.{Part, isGroup, noPart}
+use Rattle.cdf_place.specs.declared.Call.{Call}
+use Rattle.cdf_place.specs.declared.Call.the-variants.{Start, Next, Skip, GetStream, Previous}
+use Rattle.cdf_plain.specs.Calls.{Told}
 use Rattle.cdf_plain.specs.Plain.{State, Turn, handOut, followers, plainAnswer}
 use Rattle.cdf_plain.specs.Runs.{plainRun}
 use Rattle.cdf_plain.proofs.Equations.{pass, plain-none, plain-on}
@@ -30,16 +32,16 @@ pass-apart may part us fresh =
 module _ (all : List Unit) where
   answer-apart : (us : List Unit) (fresh : Bool) (c : Call) → Apart (plainAnswer all (record { units = us; fresh = fresh }) c .told .number)
   unfolding plainAnswer
-  answer-apart [] fresh start = hand-apart (record { units = []; fresh = fresh }) all
-  answer-apart [] fresh next = λ h. omega arith
-  answer-apart [] fresh skip = λ h. omega arith
-  answer-apart [] fresh getStream = λ h. omega arith
-  answer-apart [] fresh previous = λ h. omega arith
-  answer-apart (u ∷ us) fresh start = hand-apart (record { units = u ∷ us; fresh = fresh }) all
-  answer-apart (u ∷ us) fresh next = hand-apart (record { units = u ∷ us; fresh = fresh }) (followers all u us fresh)
-  answer-apart (u ∷ us) fresh skip = pass-apart (fresh && opens (u .id)) noPart (u ∷ us) fresh
-  answer-apart (u ∷ us) fresh getStream = pass-apart (fresh && isGroup (u .id)) _ (u ∷ us) fresh
-  answer-apart (u ∷ us) fresh previous = λ h. absurd (omega arith)
+  answer-apart [] fresh Start = hand-apart (record { units = []; fresh = fresh }) all
+  answer-apart [] fresh Next = λ h. omega arith
+  answer-apart [] fresh Skip = λ h. omega arith
+  answer-apart [] fresh GetStream = λ h. omega arith
+  answer-apart [] fresh Previous = λ h. omega arith
+  answer-apart (u ∷ us) fresh Start = hand-apart (record { units = u ∷ us; fresh = fresh }) all
+  answer-apart (u ∷ us) fresh Next = hand-apart (record { units = u ∷ us; fresh = fresh }) (followers all u us fresh)
+  answer-apart (u ∷ us) fresh Skip = pass-apart (fresh && opens (u .id)) noPart (u ∷ us) fresh
+  answer-apart (u ∷ us) fresh GetStream = pass-apart (fresh && isGroup (u .id)) _ (u ∷ us) fresh
+  answer-apart (u ∷ us) fresh Previous = λ h. absurd (omega arith)
 
   -- So does each call of a run.
   pub run-apart : (cs : List Call) (st : State) (k : ℕ) → Apart (getD (map (λ (t : Told). t .number) (plainRun all st cs)) k 0)

@@ -9,7 +9,7 @@ use Rattle.cdf_units.specs.Units.{listing}
 use Rattle.cdf_grammar.specs.Trees.{Forest}
 use Rattle.cdf_grammar.specs.Encoding.{Stream}
 use Rattle.cdf_place.specs.Place.{nested, every, positioned, atLast}
-use Rattle.cdf_plain.specs.Calls.{start}
+use Rattle.cdf_place.specs.declared.Call.the-variants.{Start}
 use Rattle.cdf_plain.specs.Runs.{readerRun, plainRun, noState}
 use Rattle.cdf_plain.specs.Claims.{Reads, Claims}
 use Rattle.cdf_plain.proofs.Passing.{skip-fits, take-fits, previous-fits}
@@ -24,7 +24,7 @@ reads e s t p =
     let r = readable e s t p in
     record {
       answers = answers l s r;
-      numbers = λ calls k. rw (answers l s r calls) (run-apart (listing l s .units) (start ∷ calls) noState k);
+      numbers = λ calls k. rw (answers l s r calls) (run-apart (listing l s .units) (Start ∷ calls) noState k);
       follows = follows l s r;
       ends = ends l s r;
       taken = taken l s r (p .within);

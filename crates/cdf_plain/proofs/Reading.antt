@@ -15,10 +15,12 @@ use Rattle.cdf_grammar.specs.Trees.{Forest}
 use Rattle.cdf_grammar.specs.Encoding.{Stream}
 use Rattle.cdf_grammar.proofs.Items.{Rooted}
 use Rattle.cdf_place.specs.Place.{ReaderPlace, fits}
-use Rattle.cdf_place.specs.Calls.{emptyPlace, refuse, passed, untouched, isGroup, nextOf, takeOf, partOf}
-use Rattle.cdf_plain.specs.Calls.{Call, start, next, Told, handing}
+use Rattle.cdf_place.specs.Calls.{emptyPlace, refuse, passed, untouched, isGroup, nextOf, takeOf, partOf, callOf, partTaken}
+use Rattle.cdf_place.specs.declared.Call.{Call}
+use Rattle.cdf_place.specs.declared.Call.the-variants.{Start, Next}
+use Rattle.cdf_plain.specs.Calls.{Told, handing}
 use Rattle.cdf_plain.specs.Plain.{State, handOut, plainAnswer, followingFrom, following}
-use Rattle.cdf_plain.specs.Runs.{callOf, partTaken, tells, readerRun, placeAfter, plainRun, stateAfter, noState}
+use Rattle.cdf_plain.specs.Runs.{tells, readerRun, placeAfter, plainRun, stateAfter, noState}
 use Rattle.cdf_place.proofs.Replying.{passing-tests, take-is, part-is}
 use Rattle.cdf_plain.proofs.Equations.{next-plain, tells-is, next-number, reader-none, reader-on}
 use Rattle.cdf_plain.proofs.Equations.{plain-none, plain-on, place-none, place-on, state-none, state-on}
@@ -57,7 +59,7 @@ module _ (l : Layout) (s : List ℕ) where
     called : (p : ReaderPlace) (st : State) → Together p st → (c : Call) → Alike p st c
     called = call-same l s all (Rooted l s) (r .each) (r .run) (r .some)
 
-    begun : Alike emptyPlace noState start
+    begun : Alike emptyPlace noState Start
     begun = start-same l s all (Rooted l s) (r .each) (r .run) (r .some) emptyPlace noState
 
     -- So do any calls: the answers are equal, and the last place belongs to the last state;
@@ -73,31 +75,31 @@ module _ (l : Layout) (s : List ℕ) where
         rw (place-on, state-on) (after-run cs (callOf l s p c .place) (plainAnswer all st c .state) (called p st at c .place))
 
     -- and so from a start.
-    pub answers : (cs : List Call) → readerRun l s emptyPlace (start ∷ cs) ≡ plainRun all noState (start ∷ cs)
+    pub answers : (cs : List Call) → readerRun l s emptyPlace (Start ∷ cs) ≡ plainRun all noState (Start ∷ cs)
     answers cs =
-        rw (reader-on, plain-on, begun .told, runs-same cs (callOf l s emptyPlace start .place) (plainAnswer all noState start .state) (begun .place))
+        rw (reader-on, plain-on, begun .told, runs-same cs (callOf l s emptyPlace Start .place) (plainAnswer all noState Start .state) (begun .place))
 
-    after : (cs : List Call) → Together (placeAfter l s emptyPlace (start ∷ cs)) (stateAfter all noState (start ∷ cs))
+    after : (cs : List Call) → Together (placeAfter l s emptyPlace (Start ∷ cs)) (stateAfter all noState (Start ∷ cs))
     after cs =
-        rw (place-on, state-on) (after-run cs (callOf l s emptyPlace start .place) (plainAnswer all noState start .state) (begun .place))
+        rw (place-on, state-on) (after-run cs (callOf l s emptyPlace Start .place) (plainAnswer all noState Start .state) (begun .place))
 
     -- NEXT tells the first of the units that follow.
     next-told : (p : ReaderPlace) (us : List Unit) (fresh : Bool) → Together p (record { units = us; fresh = fresh }) →
-        tells l s p next ≡ handOut (record { units = us; fresh = fresh }) (followingFrom all us fresh) .told
+        tells l s p Next ≡ handOut (record { units = us; fresh = fresh }) (followingFrom all us fresh) .told
     unfolding followingFrom
     next-told p [] fresh none = absurd none
-    next-told p (u ∷ us) fresh at = tells-is l s p next ∙ called p (record { units = u ∷ us; fresh = fresh }) at next .told ∙ next-plain all u us fresh
+    next-told p (u ∷ us) fresh at = tells-is l s p Next ∙ called p (record { units = u ∷ us; fresh = fresh }) at Next .told ∙ next-plain all u us fresh
 
     after-next : (cs : List Call) →
-        let st = stateAfter all noState (start ∷ cs) in
-        tells l s (placeAfter l s emptyPlace (start ∷ cs)) next ≡ handOut st (following all st) .told
+        let st = stateAfter all noState (Start ∷ cs) in
+        tells l s (placeAfter l s emptyPlace (Start ∷ cs)) Next ≡ handOut st (following all st) .told
     unfolding following
     after-next cs =
-        let st = stateAfter all noState (start ∷ cs) in
-        next-told (placeAfter l s emptyPlace (start ∷ cs)) (st .units) (st .fresh) (after cs)
+        let st = stateAfter all noState (Start ∷ cs) in
+        next-told (placeAfter l s emptyPlace (Start ∷ cs)) (st .units) (st .fresh) (after cs)
 
-    pub follows : (cs : List Call) (u : Unit) (us : List Unit) → following all (stateAfter all noState (start ∷ cs)) ≡ u ∷ us →
-        tells l s (placeAfter l s emptyPlace (start ∷ cs)) next ≡ handing u
+    pub follows : (cs : List Call) (u : Unit) (us : List Unit) → following all (stateAfter all noState (Start ∷ cs)) ≡ u ∷ us →
+        tells l s (placeAfter l s emptyPlace (Start ∷ cs)) Next ≡ handing u
     unfolding handOut
     follows cs u us e = after-next cs ∙ rw e
 
@@ -108,11 +110,11 @@ module _ (l : Layout) (s : List ℕ) where
     end-number st (u ∷ us) = (λ e. absurd (omega arith), λ e. let z : _≡_ {A = ℕ} 0 1 = cc in absurd (omega arith))
 
     pub ends : (cs : List Call) →
-        (nextOf l s (placeAfter l s emptyPlace (start ∷ cs)) .number ≡ 1)
-        ↔ (following all (stateAfter all noState (start ∷ cs)) ≡ [])
+        (nextOf l s (placeAfter l s emptyPlace (Start ∷ cs)) .number ≡ 1)
+        ↔ (following all (stateAfter all noState (Start ∷ cs)) ≡ [])
     ends cs =
-        let st = stateAfter all noState (start ∷ cs) in
-        let same = sym (next-number l s (placeAfter l s emptyPlace (start ∷ cs))) ∙ ap (λ (t : Told). t .number) (after-next cs) in
+        let st = stateAfter all noState (Start ∷ cs) in
+        let same = sym (next-number l s (placeAfter l s emptyPlace (Start ∷ cs))) ∙ ap (λ (t : Told). t .number) (after-next cs) in
         let w = end-number st (following all st) in
         (λ e. w .0 (sym same ∙ e), λ e. same ∙ w .1 e)
 
@@ -122,9 +124,9 @@ module _ (l : Layout) (s : List ℕ) where
     last-rooted p (u ∷ us) fresh at = at .1 .here
 
     -- A part that is taken is a stream.
-    pub taken : length s ≤ l .limit → (cs : List Call) (p : ReaderPlace) → p ≡ placeAfter l s emptyPlace (start ∷ cs) →
+    pub taken : length s ≤ l .limit → (cs : List Call) (p : ReaderPlace) → p ≡ placeAfter l s emptyPlace (Start ∷ cs) →
         takeOf l s p .number ≡ 0 → (t : Forest) × Stream l (take (partOf l s p .size) (drop (partOf l s p .start) s)) t
     taken short cs p is z =
-        let st = stateAfter all noState (start ∷ cs) in
+        let st = stateAfter all noState (Start ∷ cs) in
         rw (take-part p z)
         (group-stream l s (p .last) short (last-rooted p (st .units) (st .fresh) (rw is (after cs))) (take-group p z))

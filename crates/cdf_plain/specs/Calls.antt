@@ -1,14 +1,7 @@
--- The calls of a run, and what is compared of each answer.
+-- What is compared of each answer.
 use Prim.Native.Nat.{ℕ}
 use Rattle.cdf_units.specs.declared.Unit.{Unit}
-use Rattle.cdf_place.specs.Calls.{noUnit, Part}
-
-pub data Call : Type 0 where
-  start : Call
-  next : Call
-  skip : Call
-  getStream : Call
-  previous : Call
+use Rattle.cdf_place.specs.Calls.{noUnit, Part, noPart}
 
 -- The number and the offset, the part taken, and the unit handed out; zeros where there is none.
 pub record Told : Type 0 where
@@ -16,9 +9,6 @@ pub record Told : Type 0 where
   pub offset : ℕ
   pub part : Part
   pub unit : Unit
-
-abbrev pub noPart : Part
-noPart = record { start = 0; size = 0 }
 
 -- An answer that hands out a unit, and one that hands out nothing.
 abbrev pub handing : Unit → Told

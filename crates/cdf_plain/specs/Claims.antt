@@ -15,7 +15,9 @@ use Rattle.cdf_grammar.specs.Trees.{Forest}
 use Rattle.cdf_grammar.specs.Encoding.{Stream}
 use Rattle.cdf_place.specs.Place.{ReaderPlace, fits}
 use Rattle.cdf_place.specs.Calls.{emptyPlace, nextOf, skipOf, takeOf, partOf, previousOf}
-use Rattle.cdf_plain.specs.Calls.{Call, start, next, handing}
+use Rattle.cdf_place.specs.declared.Call.{Call}
+use Rattle.cdf_place.specs.declared.Call.the-variants.{Start, Next}
+use Rattle.cdf_plain.specs.Calls.{handing}
 use Rattle.cdf_plain.specs.Plain.{following}
 use Rattle.cdf_plain.specs.Runs.{tells, readerRun, placeAfter, plainRun, stateAfter, noState}
 use Rattle.cdf_plain.specs.Samples.{k2Calls, k2Answers, k12Calls, k12Answers}
@@ -24,20 +26,20 @@ use Rattle.cdf_plain.specs.Samples.{k2Calls, k2Answers, k12Calls, k12Ans
 pub record Reads (e : Edition) (s : List ℕ) : Type 0 where
   -- Demand 3: the two readers give equal lists of answers.
   pub answers : (calls : List Call) →
-      readerRun (layoutOf e) s emptyPlace (start ∷ calls) ≡ plainRun (listing (layoutOf e) s .units) noState (start ∷ calls)
+      readerRun (layoutOf e) s emptyPlace (Start ∷ calls) ≡ plainRun (listing (layoutOf e) s .units) noState (Start ∷ calls)
   -- So no call answers with a number from 2 to 10: the k-th does not, for any k.
-  pub numbers : (calls : List Call) (k : ℕ) → 1 < getD (map (λ t. t .number) (readerRun (layoutOf e) s emptyPlace (start ∷ calls))) k 0 →
-      10 < getD (map (λ t. t .number) (readerRun (layoutOf e) s emptyPlace (start ∷ calls))) k 0
+  pub numbers : (calls : List Call) (k : ℕ) → 1 < getD (map (λ t. t .number) (readerRun (layoutOf e) s emptyPlace (Start ∷ calls))) k 0 →
+      10 < getD (map (λ t. t .number) (readerRun (layoutOf e) s emptyPlace (Start ∷ calls))) k 0
   -- NEXT hands out the unit after the last one, or after all inside it if that was skipped or taken;
   pub follows : (calls : List Call) (u : Unit) (us : List Unit) →
-      following (listing (layoutOf e) s .units) (stateAfter (listing (layoutOf e) s .units) noState (start ∷ calls)) ≡ u ∷ us →
-      tells (layoutOf e) s (placeAfter (layoutOf e) s emptyPlace (start ∷ calls)) next ≡ handing u
+      following (listing (layoutOf e) s .units) (stateAfter (listing (layoutOf e) s .units) noState (Start ∷ calls)) ≡ u ∷ us →
+      tells (layoutOf e) s (placeAfter (layoutOf e) s emptyPlace (Start ∷ calls)) Next ≡ handing u
   -- the end is reported exactly where no unit follows.
   pub ends : (calls : List Call) →
-      (nextOf (layoutOf e) s (placeAfter (layoutOf e) s emptyPlace (start ∷ calls)) .number ≡ 1)
-      ↔ (following (listing (layoutOf e) s .units) (stateAfter (listing (layoutOf e) s .units) noState (start ∷ calls)) ≡ [])
+      (nextOf (layoutOf e) s (placeAfter (layoutOf e) s emptyPlace (Start ∷ calls)) .number ≡ 1)
+      ↔ (following (listing (layoutOf e) s .units) (stateAfter (listing (layoutOf e) s .units) noState (Start ∷ calls)) ≡ [])
   -- A part that is taken is a stream of its own.
-  pub taken : (calls : List Call) → (p : ReaderPlace) → p ≡ placeAfter (layoutOf e) s emptyPlace (start ∷ calls) →
+  pub taken : (calls : List Call) → (p : ReaderPlace) → p ≡ placeAfter (layoutOf e) s emptyPlace (Start ∷ calls) →
       takeOf (layoutOf e) s p .number ≡ 0 →
       (t : Forest) × Stream (layoutOf e) (take (partOf (layoutOf e) s p .size) (drop (partOf (layoutOf e) s p .start) s)) t
 

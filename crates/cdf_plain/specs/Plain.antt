@@ -6,7 +6,9 @@ use lib.Dec.{leb}
 use Rattle.cdf_table.specs.States.{opens}
 use Rattle.cdf_units.specs.declared.Unit.{Unit}
 use Rattle.cdf_place.specs.Calls.{noUnit, isGroup}
-use Rattle.cdf_plain.specs.Calls.{Call, start, next, skip, getStream, previous, Told, handing, saying}
+use Rattle.cdf_place.specs.declared.Call.{Call}
+use Rattle.cdf_place.specs.declared.Call.the-variants.{Start, Next, Skip, GetStream, Previous}
+use Rattle.cdf_plain.specs.Calls.{Told, handing, saying}
 
 -- Its state: a listed unit with those listed after it, and whether it is fresh. Before a start there is no unit.
 pub record State : Type 0 where
@@ -39,24 +41,24 @@ followers all u us false = startingAt (u .end) all
 -- What comes of a call at a unit, with `all` the unit list.
 unfoldable pub answerAt : List Unit → Unit → List Unit → Bool → Call → Turn
 unfolding handOut followers opens
-answerAt all u us fresh start = handOut (record { units = u ∷ us; fresh = fresh }) all
-answerAt all u us fresh next = handOut (record { units = u ∷ us; fresh = fresh }) (followers all u us fresh)
-answerAt all u us fresh skip =
+answerAt all u us fresh Start = handOut (record { units = u ∷ us; fresh = fresh }) all
+answerAt all u us fresh Next = handOut (record { units = u ∷ us; fresh = fresh }) (followers all u us fresh)
+answerAt all u us fresh Skip =
     cond (fresh && opens (u .id)) (turn (saying 0) (u ∷ us) false) (turn (saying 11) (u ∷ us) fresh)
-answerAt all u us fresh getStream =
+answerAt all u us fresh GetStream =
     cond (fresh && isGroup (u .id))
     (turn (record { number = 0; offset = 0; part = record { start = u .start; size = u .end - u .start }; unit = noUnit }) (u ∷ us) false)
     (turn (saying 11) (u ∷ us) fresh)
-answerAt all u us fresh previous = turn (handing u) (u ∷ us) fresh
+answerAt all u us fresh Previous = turn (handing u) (u ∷ us) fresh
 
 -- Before a start there is nothing to read on from.
 unfoldable pub answerNone : List Unit → Bool → Call → Turn
 unfolding handOut
-answerNone all fresh start = handOut (record { units = []; fresh = fresh }) all
-answerNone all fresh next = turn (saying 11) [] fresh
-answerNone all fresh skip = turn (saying 11) [] fresh
-answerNone all fresh getStream = turn (saying 11) [] fresh
-answerNone all fresh previous = turn (saying 11) [] fresh
+answerNone all fresh Start = handOut (record { units = []; fresh = fresh }) all
+answerNone all fresh Next = turn (saying 11) [] fresh
+answerNone all fresh Skip = turn (saying 11) [] fresh
+answerNone all fresh GetStream = turn (saying 11) [] fresh
+answerNone all fresh Previous = turn (saying 11) [] fresh
 
 unfoldable pub answerFrom : List Unit → List Unit → Bool → Call → Turn
 unfolding answerAt answerNone

@@ -5,26 +5,10 @@ use mathlib.Core.List.{List, [], _∷_}
 use Rattle.cdf_prefix.specs.Layout.{Layout}
 use Rattle.cdf_units.specs.declared.Unit.{Unit}
 use Rattle.cdf_place.specs.Place.{ReaderPlace}
-use Rattle.cdf_place.specs.Calls.{Reply, firstOf, nextOf, skipOf, takeOf, Part, partOf, previousOf}
-use Rattle.cdf_plain.specs.Calls.{Call, start, next, skip, getStream, previous, Told, noPart}
+use Rattle.cdf_place.specs.Calls.{callOf, partTaken}
+use Rattle.cdf_place.specs.declared.Call.{Call}
+use Rattle.cdf_plain.specs.Calls.{Told}
 use Rattle.cdf_plain.specs.Plain.{State, plainAnswer}
-
-unfoldable pub callOf : Layout → List ℕ → ReaderPlace → Call → Reply
-unfolding firstOf nextOf skipOf takeOf previousOf
-callOf l s p start = firstOf l s
-callOf l s p next = nextOf l s p
-callOf l s p skip = skipOf l s p
-callOf l s p getStream = takeOf l s p
-callOf l s p previous = previousOf l s p
-
--- Only GET_STREAM takes a part.
-unfoldable pub partTaken : Layout → List ℕ → ReaderPlace → Call → Part
-unfolding partOf
-partTaken l s p start = noPart
-partTaken l s p next = noPart
-partTaken l s p skip = noPart
-partTaken l s p getStream = partOf l s p
-partTaken l s p previous = noPart
 
 -- What the reader tells of a call.
 unfoldable pub tells : Layout → List ℕ → ReaderPlace → Call → Told

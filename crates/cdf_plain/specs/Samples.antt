@@ -3,7 +3,9 @@ use Prim.Native.Nat.{ℕ}
 use mathlib.Core.List.{List, [], _∷_}
 use Rattle.cdf_units.specs.declared.Unit.{Unit}
 use Rattle.cdf_place.specs.Calls.{noUnit}
-use Rattle.cdf_plain.specs.Calls.{Call, start, next, skip, getStream, previous, Told, handing, saying}
+use Rattle.cdf_place.specs.declared.Call.{Call}
+use Rattle.cdf_place.specs.declared.Call.the-variants.{Start, Next, Skip, GetStream, Previous}
+use Rattle.cdf_plain.specs.Calls.{Told, handing, saying}
 
 abbrev unit : ℕ → ℕ → ℕ → ℕ → ℕ → Unit
 unit id action from own end = record { id = id; action = action; start = from; own = own; end = end }
@@ -24,9 +26,9 @@ field = unit 8 1 29 43 46
 -- Unit by unit to the end, the template skipped, and the group taken; a key, and what was passed, cannot be passed.
 abbrev pub k2Calls : List Call
 k2Calls =
-    start ∷ previous ∷ next ∷ next ∷ skip ∷ next ∷ next ∷ getStream
-    ∷ start ∷ next ∷ skip ∷ skip ∷ previous ∷ next
-    ∷ start ∷ getStream ∷ next ∷ previous ∷ []
+    Start ∷ Previous ∷ Next ∷ Next ∷ Skip ∷ Next ∷ Next ∷ GetStream
+    ∷ Start ∷ Next ∷ Skip ∷ Skip ∷ Previous ∷ Next
+    ∷ Start ∷ GetStream ∷ Next ∷ Previous ∷ []
 
 abbrev pub k2Answers : List Told
 k2Answers =
@@ -46,8 +48,8 @@ call = unit 2 0 6 18 18
 -- The call is skipped past the end, and then the stream; neither is a group.
 abbrev pub k12Calls : List Call
 k12Calls =
-    start ∷ getStream ∷ next ∷ next ∷ getStream ∷ skip ∷ next ∷ previous
-    ∷ start ∷ skip ∷ next ∷ skip ∷ previous ∷ []
+    Start ∷ GetStream ∷ Next ∷ Next ∷ GetStream ∷ Skip ∷ Next ∷ Previous
+    ∷ Start ∷ Skip ∷ Next ∷ Skip ∷ Previous ∷ []
 
 abbrev pub k12Answers : List Told
 k12Answers =

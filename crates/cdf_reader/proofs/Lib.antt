@@ -3,4 +3,5 @@ pub mod Entered
 pub mod Stepped
 pub mod Replies
 pub mod Passing
+pub mod Asking
 pub mod Proved

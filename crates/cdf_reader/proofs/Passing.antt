@@ -14,7 +14,7 @@ use Rattle.cdf_units.specs.declared.Open.{Open}
 use Rattle.cdf_place.specs.Place.{ReaderPlace, fits}
 use Rattle.cdf_place.specs.Calls.{refuse, untouched, skippedTop, passed, passing, isGroup, takeOf, partOf}
 use Rattle.cdf_place.proofs.Fitting.{fitting}
-use Rattle.cdf_place.proofs.Replying.{passing-tests, take-is, part-is}
+use Rattle.cdf_place.proofs.Replying.{take-is, part-is}
 use Rattle.cdf_place.specs.Slots.{openUnits, placeOf}
 use Rattle.cdf_reader.specs.View.{view}
 use Rattle.cdf_reader.specs.declared.Place.{Place}
@@ -38,15 +38,6 @@ unfolding passed
 passed-is p = rw (skipped-top (p .count) (p .top) (p .o1) (p .o2) (p .o3))
 
 module _ (l : Layout) (s : List ℕ) (v : ReaderPlace) where
-  pub pass-not : (may : Bool) → may ≡ false → passing l s v may ≡ refuse 11 0 v
-  pass-not may e = rw (passing-tests l s, e)
-
-  pub pass-unfit : (may : Bool) → may ≡ true → fits l (length s) v ≡ false → passing l s v may ≡ refuse 2 0 v
-  pass-unfit may e f = rw (passing-tests l s, e, f)
-
-  pub pass-on : (may : Bool) → may ≡ true → fits l (length s) v ≡ true → passing l s v may ≡ refuse 0 0 (passed v)
-  pass-on may e f = rw (passing-tests l s, e, f)
-
   -- Only a place that fits is passed.
   pub passing-fits : (may : Bool) → passing l s v may .number ≡ 0 → fits l (length s) v ≡ true
   unfolding passing

@@ -1,6 +1,6 @@
 // The reader: a place goes in with each call and a new one comes back.
 ghost use mathlib.Core.Path.{_≡_};
-ghost use mathlib.Core.Bool.{true};
+ghost use mathlib.Core.Bool.{true, _||_};
 ghost use Prim.Native.Nat.{_+_, _≤_};
 ghost use denote.Ref.{ptr};
 ghost use lib.ListN.{length};
@@ -10,14 +10,17 @@ ghost use Rattle.cdf_units.specs.Units.{after};
 ghost use Rattle.cdf_prefix.specs.Layout.{layoutOf};
 ghost use Rattle.cdf_prefix.specs.declared.Edition.the-variants.{First};
 ghost use Rattle.cdf_place.specs.Place.{fits};
-ghost use Rattle.cdf_place.specs.Calls.{noUnit, stepped, firstOf, nextOf, untouched, passing, skipOf, takeOf, previousOf, abnormalEnd};
+ghost use Rattle.cdf_place.specs.Calls.{noUnit, refuse, stepped, firstOf, nextOf, untouched, passed, skipOf, takeOf, previousOf, abnormalEnd, callOf};
+ghost use Rattle.cdf_place.specs.declared.Call.the-variants.{Previous};
 ghost use Rattle.cdf_place.specs.Slots.{noOpen, openUnits};
 ghost use Rattle.cdf_reader.specs.View.{view, replyOf, partAt, bytesOf, noPlace, refusal};
 ghost use Rattle.cdf_reader.specs.Left.{outside, leftIn, Closed};
+ghost use Rattle.cdf_reader.specs.Uses.{isStart, hasUse, placeKept};
 use cdf_fit::fits;
 use cdf_judge::Judged;
 use cdf_judge::judge;
 use cdf_judge::judge_root;
+use cdf_place::Call;
 use cdf_prefix::Edition;
 use cdf_table::ER_GROUP;
 use cdf_table::FILE_GROUP;
@@ -242,6 +245,19 @@ fn enter(p: Place, left: Left, unit: Unit, state: usize) -> Answer
     }
 }
 
+// A start is the one call that needs no place.
+pub fn is_start(call: Call) -> bool
+    ensures { λ r. ⌜ r ≡ isStart call ⌝ }
+{
+    match call {
+        Call::Start => true,
+        Call::Next => false,
+        Call::Skip => false,
+        Call::GetStream => false,
+        Call::Previous => false,
+    }
+}
+
 impl Place {
     // Whether the place could belong to n bytes.
     fn is_fit(self, edition: Edition, n: usize) -> bool
@@ -311,41 +327,10 @@ impl Place {
         }
     }
 
-    // The next unit: closes what ends here, then reads the unit at the position. Numbers 11, 2, 10, 1 and 3 to 9.
-    pub(crate) fn next_as(self, edition: Edition, s: &[u8]) -> Answer
-        ensures is { λ r. ⌜ replyOf r ≡ nextOf (layoutOf edition) (now (s .entry)) (view self) ⌝ }
-        ensures kept { λ r. ⌜ ((r .number ≡ 0 → ⊥) → r .place ≡ self) ⌝ }
+    // The place past the last unit, which stays open and is skipped.
+    fn passed(self) -> Answer
+        ensures { λ r. ⌜ replyOf r ≡ refuse 0 0 (passed (view self)) ⌝ }
     {
-        if self.count == 0 {
-            return refused(11, 0, self);
-        }
-        let n = s.len();
-        if !self.is_fit(edition, n) {
-            return refused(2, 0, self);
-        }
-        self.step(edition, s)
-    }
-
-    // NEXT, for streams of the first edition.
-    pub fn next(self, s: &[u8]) -> Answer
-        ensures is { λ r. ⌜ replyOf r ≡ nextOf (layoutOf First) (now (s .entry)) (view self) ⌝ }
-        ensures kept { λ r. ⌜ ((r .number ≡ 0 → ⊥) → r .place ≡ self) ⌝ }
-    {
-        self.next_as(Edition::First, s)
-    }
-
-    // Passes the last unit whole, if it may be: 11, then 2.
-    fn pass_as(self, edition: Edition, s: &[u8], may: bool) -> Answer
-        ensures is { λ r. ⌜ replyOf r ≡ passing (layoutOf edition) (now (s .entry)) (view self) may ⌝ }
-        ensures kept { λ r. ⌜ ((r .number ≡ 0 → ⊥) → r .place ≡ self) ⌝ }
-    {
-        if !may {
-            return refused(11, 0, self);
-        }
-        let n = s.len();
-        if !self.is_fit(edition, n) {
-            return refused(2, 0, self);
-        }
         let top = self.top;
         let o1 = self.o1;
         let o2 = self.o2;
@@ -383,13 +368,101 @@ impl Place {
         first_state(self.last.id) != 0
     }
 
+    // Whether the call has something to do; 11 else.
+    fn has_use(self, call: Call) -> bool
+        ensures { λ r. ⌜ r ≡ hasUse (view self) call ⌝ }
+    {
+        match call {
+            Call::Start => true,
+            Call::Next => self.count != 0,
+            Call::Skip => self.is_untouched(),
+            Call::GetStream => {
+                let may = self.is_untouched();
+                let id = self.last.id;
+                may & ((id == ER_GROUP) | (id == FILE_GROUP))
+            }
+            Call::Previous => self.count != 0,
+        }
+    }
+
+    // Whether the call may go on with this place; 2 else.
+    fn is_ready(self, edition: Edition, n: usize, call: Call) -> bool
+        ensures { λ r. ⌜ r ≡ (isStart call || fits (layoutOf edition) n (view self)) ⌝ }
+    {
+        if is_start(call) {
+            return true;
+        }
+        self.is_fit(edition, n)
+    }
+
+    // NEXT alone, for callers that need no other call: it is faster without the tests for which call it is.
+    pub(crate) fn next_as(self, edition: Edition, s: &[u8]) -> Answer
+        ensures is { λ r. ⌜ replyOf r ≡ nextOf (layoutOf edition) (now (s .entry)) (view self) ⌝ }
+        ensures kept { λ r. ⌜ ((r .number ≡ 0 → ⊥) → r .place ≡ self) ⌝ }
+    {
+        if self.count == 0 {
+            return refused(11, 0, self);
+        }
+        let n = s.len();
+        if !self.is_fit(edition, n) {
+            return refused(2, 0, self);
+        }
+        self.step(edition, s)
+    }
+
+    // Any call: 11, then 2, then what it does. So in this code a place is tested and a unit is read in one line, into which the
+    // compiler can put all of both.
+    pub(crate) fn call_as(self, edition: Edition, call: Call, s: &[u8]) -> Answer
+        ensures is { λ r. ⌜ replyOf r ≡ callOf (layoutOf edition) (now (s .entry)) (view self) call ⌝ }
+        ensures kept { λ r. ⌜ ((r .number ≡ 0 → ⊥) → r .place ≡ placeKept call self) ⌝ }
+        ensures again { λ r. ⌜ (call ≡ Previous → r .place ≡ self) ⌝ }
+    {
+        if !self.has_use(call) {
+            return refused(11, 0, self);
+        }
+        let n = s.len();
+        if !self.is_ready(edition, n, call) {
+            return refused(2, 0, self);
+        }
+        match call {
+            Call::Start => first_as(edition, s),
+            Call::Next => self.step(edition, s),
+            Call::Skip => self.passed(),
+            Call::GetStream => self.passed(),
+            Call::Previous => {
+                let unit = self.last;
+                Answer {
+                    number: 0,
+                    offset: 0,
+                    unit,
+                    place: self,
+                }
+            }
+        }
+    }
+
+    // Any call, for streams of the first edition.
+    pub fn call(self, call: Call, s: &[u8]) -> Answer
+        ensures is { λ r. ⌜ replyOf r ≡ callOf (layoutOf First) (now (s .entry)) (view self) call ⌝ }
+        ensures kept { λ r. ⌜ ((r .number ≡ 0 → ⊥) → r .place ≡ placeKept call self) ⌝ }
+    {
+        self.call_as(Edition::First, call, s)
+    }
+
+    // NEXT: closes what ends here, then reads the unit at the position. Numbers 11, 2, 10, 1 and 3 to 9.
+    pub fn next(self, s: &[u8]) -> Answer
+        ensures is { λ r. ⌜ replyOf r ≡ nextOf (layoutOf First) (now (s .entry)) (view self) ⌝ }
+        ensures kept { λ r. ⌜ ((r .number ≡ 0 → ⊥) → r .place ≡ self) ⌝ }
+    {
+        self.next_as(Edition::First, s)
+    }
+
     // SKIP: moves past the last unit, whatever it holds.
     pub fn skip(self, s: &[u8]) -> Answer
         ensures is { λ r. ⌜ replyOf r ≡ skipOf (layoutOf First) (now (s .entry)) (view self) ⌝ }
         ensures kept { λ r. ⌜ ((r .number ≡ 0 → ⊥) → r .place ≡ self) ⌝ }
     {
-        let may = self.is_untouched();
-        self.pass_as(Edition::First, s, may)
+        self.call_as(Edition::First, Call::Skip, s)
     }
 
     // GET_STREAM's number and place: as SKIP, for groups alone.
@@ -397,10 +470,7 @@ impl Place {
         ensures is { λ r. ⌜ replyOf r ≡ takeOf (layoutOf First) (now (s .entry)) (view self) ⌝ }
         ensures kept { λ r. ⌜ ((r .number ≡ 0 → ⊥) → r .place ≡ self) ⌝ }
     {
-        let may = self.is_untouched();
-        let id = self.last.id;
-        let group = (id == ER_GROUP) | (id == FILE_GROUP);
-        self.pass_as(Edition::First, s, may & group)
+        self.call_as(Edition::First, Call::GetStream, s)
     }
 
     // PREVIOUS: hands out the last unit again.
@@ -408,20 +478,7 @@ impl Place {
         ensures is { λ r. ⌜ replyOf r ≡ previousOf (layoutOf First) (now (s .entry)) (view self) ⌝ }
         ensures kept { λ r. ⌜ r .place ≡ self ⌝ }
     {
-        if self.count == 0 {
-            return refused(11, 0, self);
-        }
-        let n = s.len();
-        if !self.is_fit(Edition::First, n) {
-            return refused(2, 0, self);
-        }
-        let unit = self.last;
-        Answer {
-            number: 0,
-            offset: 0,
-            unit,
-            place: self,
-        }
+        self.call_as(Edition::First, Call::Previous, s)
     }
 
     // ABNORMAL_END: gives the reading up.

@@ -11,7 +11,7 @@ use Rattle.cdf_prefix.specs.Layout.{layoutOf}
 use Rattle.cdf_build.specs.Place.{fits}
 use Rattle.cdf_build.specs.Requests.{unit}
 use Rattle.cdf_builder.specs.View.{view}
-use Rattle.cdf_builder.proofs.Deciding.{declined, unfit, unknown, not-joined, wrong, Grows, grows, unit-grows, sum-fits}
+use Rattle.cdf_builder.proofs.Decided.{declined, unfit, unknown, not-joined, wrong, Grows, grows, unit-grows, sum-fits}
 use Rattle.cdf_builder.proofs.Few.{growable}
 use Rattle.cdf_builder.proofs.Builder.decide_as.Statement.{statement}
 use Rattle.cdf_builder.proofs.Builder.decide_as.Tie as tie

@@ -10,7 +10,7 @@ use Rattle.cdf_prefix.specs.Layout.{layoutOf}
 use Rattle.cdf_build.specs.Place.{fits}
 use Rattle.cdf_build.specs.Requests.{group}
 use Rattle.cdf_builder.specs.View.{view}
-use Rattle.cdf_builder.proofs.Deciding.{declined, unfit, no-group, group-not-joined, Grows, grows, group-grows, sum-fits}
+use Rattle.cdf_builder.proofs.Decided.{declined, unfit, no-group, group-not-joined, Grows, grows, group-grows, sum-fits}
 use Rattle.cdf_builder.proofs.Few.{growable}
 use Rattle.cdf_builder.proofs.Builder.decide_group.Statement.{statement}
 use Rattle.cdf_builder.proofs.Builder.decide_group.Tie as tie

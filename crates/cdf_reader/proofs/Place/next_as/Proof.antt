@@ -1,10 +1,10 @@
--- 11, 2, and else what a step comes to (proofs/Replies).
-use mathlib.Core.Path.{sym, ap, _∙_}
+-- As the call by its name (proofs/Asking): 11, 2, and else a step.
+use mathlib.Core.Path.{refl, sym, _∙_}
 use borrow.Author.Needs.{needs}
 use borrow.Author.Tests.{not-true, not-false}
-use Rattle.cdf_reader.specs.View.{replyOf}
-use Rattle.cdf_reader.specs.declared.Answer.{Answer}
-use Rattle.cdf_reader.proofs.Replies.{next-empty, next-unfit, next-fit}
+use Rattle.cdf_prefix.specs.Layout.{layoutOf}
+use Rattle.cdf_place.specs.declared.Call.the-variants.{Next}
+use Rattle.cdf_reader.proofs.Asking.{by-next, useless, unfit, steps, next-none, next-some}
 use Rattle.cdf_reader.proofs.Place.next_as.Statement.{statement}
 use Rattle.cdf_reader.proofs.Place.next_as.Tie as tie
 
@@ -13,9 +13,10 @@ refused-requires c κs = search needs
 
 returns : tie.Need-returns
 returns c =
-    let r = c .refused .ensures in
-    let p = c .before .before .before .before .args .self in
-    (ap replyOf r ∙ sym (next-empty _ _ p (c .before .if1 .taken)), λ some. ap (λ (a : Answer). a .place) r)
+    let a = c .before .before .before .before .args in
+    let l = layoutOf (a .edition) in
+    by-next l (a .s .now) (a .self) _
+    (useless l (a .s .now) (a .self) Next (next-none (a .self) (c .before .if1 .taken)) (c .refused .result) (c .refused .ensures))
 
 is-fit-requires : tie.Need-is-fit-requires
 is-fit-requires c κs = search needs
@@ -25,13 +26,12 @@ refused-requires-2 c κs = search needs
 
 returns-2 : tie.Need-returns-2
 returns-2 c =
-    let r = c .refused2 .ensures in
     let fit = c .before .before in
-    let p = fit .before .before .before .before .args .self in
-    let some = fit .before in (
-      ap replyOf r ∙ sym (next-unfit _ _ p (some .if1 .left) (sym (fit .is-fit .ensures) ∙ not-true (fit .is-fit .result) (c .before .if2 .taken))),
-      λ some. ap (λ (a : Answer). a .place) r,
-    )
+    let a = fit .before .before .before .before .args in
+    let l = layoutOf (a .edition) in
+    let may = next-some (a .self) (fit .before .if1 .left) in
+    let not-fit = sym (fit .is-fit .ensures) ∙ not-true (fit .is-fit .result) (c .before .if2 .taken) in
+    by-next l (a .s .now) (a .self) _ (unfit l (a .s .now) (a .self) Next may not-fit (c .refused2 .result) (c .refused2 .ensures))
 
 step-requires : tie.Need-step-requires
 step-requires c κs = sym (c .before .is-fit .ensures) ∙ not-false (c .before .is-fit .result) (c .if2 .left)
@@ -39,10 +39,12 @@ step-requires c κs = sym (c .before .is-fit .ensures) ∙ not-false (c .before 
 returns-3 : tie.Need-returns-3
 returns-3 c =
     let fit = c .before .before in
-    let p = fit .before .before .before .before .args .self in
-    let some = fit .before in
+    let a = fit .before .before .before .before .args in
+    let l = layoutOf (a .edition) in
+    let may = next-some (a .self) (fit .before .if1 .left) in
     let fits = sym (fit .is-fit .ensures) ∙ not-false (fit .is-fit .result) (c .before .if2 .left) in
-    (c .step .ensures .0 ∙ sym (next-fit _ _ p (some .if1 .left) fits), c .step .ensures .1)
+    by-next l (a .s .now) (a .self) _
+    (steps l (a .s .now) (a .self) Next may fits refl (c .step .result) (c .step .ensures .0) (c .step .ensures .1))
 
 pub next-as-spec : {M : Type 1} → statement M
 next-as-spec =

@@ -1,0 +1,24 @@
+-- The unit, and then the lengths.
+use mathlib.Core.Path.{_∙_}
+use borrow.Author.Needs.{needs}
+use Rattle.cdf_build.specs.Calls.{writeOf}
+use Rattle.cdf_builder.proofs.writing.write.Statement.{statement}
+use Rattle.cdf_builder.proofs.writing.write.Tie as tie
+
+write-unit-requires : tie.Need-write-unit-requires
+write-unit-requires c κs = search needs
+
+rewrite-requires : tie.Need-rewrite-requires
+rewrite-requires c κs = search needs
+
+same-length : tie.Need-same-length
+same-length c = search needs
+
+returns : tie.Need-returns
+unfolding writeOf
+returns c =
+    let wrote = c .before .before in
+    wrote .rewrite .ensures ∙ rw (wrote .before .before .before .before .write-unit .ensures)
+
+pub write-spec : {M : Type 1} → statement M
+write-spec = tie.close (tie.spec write-unit-requires rewrite-requires same-length returns)

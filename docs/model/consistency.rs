@@ -1,0 +1,114 @@
+//! The model against itself: what document 01 says of whole runs holds of it, by ways that share little code.
+
+use crate::readers::hex;
+use crate::tally::Tally;
+use cdf_model::builder::{self, requests, Request};
+use cdf_model::check::check;
+use cdf_model::numbers::CODES;
+use cdf_model::plain::Plain;
+use cdf_model::reader::{call, Call, Place, Reply};
+use cdf_model::streams::Tree;
+use cdf_model::units::list;
+
+fn expect(tally: &Tally, holds: bool, what: &str, stream: &[u8]) {
+    if !holds {
+        tally.differ(what, &hex(stream), "(not asked)", "does not agree with itself");
+    }
+}
+
+/// The unit list, the check and the reader; and the tree, if the stream was grown from one.
+pub fn stream(tally: &mut Tally, stream: &[u8], tree: Option<&Tree>) {
+    let listed = list(stream);
+    let answer = match listed.fault {
+        None => Ok(listed.units.len() as u64),
+        Some(fault) => Err(fault),
+    };
+    expect(tally, check(stream) == answer, "check and unit list", stream);
+    expect(tally, listed.units.len() <= stream.len() / 6, "at most n / 6 units", stream);
+    let end = listed.fault.map_or((1, 0), |fault| (fault.number, fault.offset));
+    let mut reply = call(Call::First, stream, &Place::default());
+    for unit in &listed.units {
+        let handed_out = (reply.number, reply.offset, reply.unit) == (0, 0, *unit);
+        expect(tally, handed_out, "units that start and NEXT hand out", stream);
+        reply = call(Call::Next, stream, &reply.place);
+    }
+    expect(tally, (reply.number, reply.offset) == end, "the end of reading", stream);
+    let owed = if listed.units.is_empty() { (11, 0) } else { end };
+    let again = call(Call::Next, stream, &reply.place);
+    expect(tally, (again.number, again.offset) == owed, "NEXT after the end", stream);
+    if let Some(tree) = tree {
+        let same = answer.is_ok() && tree.requests() == requests(stream);
+        expect(tally, same, "a tree of the grammar and its reading", stream);
+        expect(tally, rebuilt(&tree.requests()).as_deref() == Some(stream), "building a tree", stream);
+    }
+    tally.count("streams on which the model agrees with itself");
+}
+
+/// On an accepted stream the reader with places answers a list of calls, begun by a start, as the plain reader does; parts
+/// are accepted streams.
+pub fn plain(tally: &mut Tally, stream: &[u8], codes: &[u8]) {
+    let units = list(stream).units;
+    let mut plain = Plain::new(&units);
+    let mut place = Place::default();
+    for code in codes {
+        let which = CODES[usize::from(*code) - 1];
+        let reply = call(which, stream, &place);
+        let Reply { number, offset, unit, part, .. } = reply;
+        let same = (number, unit, part) == plain.call(which) && offset == 0;
+        expect(tally, same, "the plain reader", stream);
+        if which == Call::GetStream && number == 0 {
+            let part = &stream[part.0 as usize..(part.0 + part.1) as usize];
+            expect(tally, check(part).is_ok(), "a part is an accepted stream", stream);
+        }
+        place = reply.place;
+    }
+    tally.count("lists of calls answered as by the plain reader");
+}
+
+/// The bytes that a builder makes of these requests, the first of them the root.
+fn rebuilt(requests: &[Request]) -> Option<Vec<u8>> {
+    let size = requests.iter().map(|request| 6 + request.data.len()).sum();
+    let mut buffer = vec![0xAA; size];
+    let mut place = builder::start(&mut buffer, requests[0].id).ok()?;
+    for request in &requests[1..] {
+        place = builder::next(&mut buffer, &place, request).ok()?;
+    }
+    let length = builder::finish(&buffer, &place).ok()?;
+    (length == size as u64).then_some(buffer)
+}
+
+/// After any 0 of a builder: what is written is accepted exactly if finish says so, and else only incomplete; read back
+/// it is what was asked for.
+pub fn built(tally: &mut Tally, buffer: &[u8], place: &builder::Place, asked: &[Request]) {
+    let front = &buffer[..place.written as usize];
+    let same = match (builder::finish(buffer, place), check(front)) {
+        (Ok(length), Ok(units)) => length == place.written && units == asked.len() as u64,
+        (Err(10), Err(refusal)) => refusal.number == 10,
+        _ => false,
+    };
+    expect(tally, same, "finish and check", front);
+    let read = requests(front);
+    expect(tally, read[..] == asked[..read.len()], "what was built, read back", front);
+    tally.count("buffers that the model builds and reads back");
+}
+
+/// The bytes of an added group are those of its units built singly.
+pub fn added(tally: &mut Tally, buffer: &[u8], place: &builder::Place, group: &[u8]) {
+    let (mut whole, mut singly) = (buffer.to_vec(), buffer.to_vec());
+    let Ok(closed) = builder::add_stream(&mut whole, place, group) else {
+        return;
+    };
+    let mut open = place.clone();
+    for request in requests(group) {
+        match builder::next(&mut singly, &open, &request) {
+            Ok(next) => open = next,
+            Err(_) => expect(tally, false, "units of a group, built singly", group),
+        }
+    }
+    let same = whole == singly && closed.written == open.written;
+    expect(tally, same, "a group added and built singly", group);
+    let template = Request { id: 5, action: 1, data: b"\x01A".to_vec() };
+    let next = builder::next(&mut whole, &closed, &template);
+    expect(tally, next == Err(7), "a template after an added group", group);
+    tally.count("groups that the model adds and builds singly");
+}

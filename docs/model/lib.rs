@@ -1,0 +1,17 @@
+//! A second implementation of document 01 in plain Rust, written from the document and not from the proved code.
+
+pub mod build_cases;
+mod build_places;
+pub mod build_run;
+pub mod builder;
+pub mod cases;
+pub mod check;
+mod named;
+pub mod numbers;
+pub mod plain;
+pub mod random;
+pub mod reader;
+pub mod rules;
+pub mod samples;
+pub mod streams;
+pub mod units;

@@ -1,0 +1,150 @@
+//! Compares an archive of the library with the model on random streams, calls, places and requests.
+//!   diff SECONDS SEED   for so long
+//!   diff long SEED      until the figures of `LONG` are reached, with a progress line
+
+mod archive;
+mod builders;
+mod consistency;
+mod places;
+mod readers;
+mod tally;
+
+use cdf_model::cases::cases;
+use cdf_model::check::check;
+use cdf_model::random::Random;
+use cdf_model::samples::samples;
+use cdf_model::streams::{damage_bytes, damage_tree, filled, grow, mend_root, noise, Tree};
+use std::time::{Duration, Instant};
+use tally::Tally;
+
+/// The least numbers of reader calls, hand-made places of reader and builder, and builder calls in a long run.
+const LONG: [u64; 4] = [40_000_000, 5_000_000, 4_000_000, 10_000_000];
+
+/// The kind of a stream, its bytes, and its tree if it has no damage.
+fn stream(random: &mut Random) -> (&'static str, Vec<u8>, Option<Tree>) {
+    if random.one_in(400) {
+        return large(random);
+    }
+    let asked = match random.below(40) {
+        0 => 3_000,
+        1..=4 => 400,
+        _ => random.pick(&[0, 12, 30, 60, 120]),
+    };
+    let mut tree = grow(random.pick(&[1, 1, 4, 13]), asked, random);
+    match random.below(20) {
+        0..=5 => ("streams: grown", tree.bytes(), Some(tree)),
+        6..=10 => {
+            for _ in 0..random.between(1, 2) {
+                damage_tree(&mut tree, random);
+            }
+            ("streams: damaged trees", tree.bytes(), None)
+        }
+        11..=16 => {
+            let mut bytes = tree.bytes();
+            for _ in 0..random.between(1, 2) {
+                damage_bytes(&mut bytes, random);
+            }
+            ("streams: damaged bytes", bytes, None)
+        }
+        17 => {
+            let count = random.between(0, 60);
+            let mut bytes = random.bytes(count);
+            if random.one_in(2) {
+                mend_root(&mut bytes);
+            }
+            ("streams: random bytes", bytes, None)
+        }
+        _ => ("streams: random bytes and prefixes", noise(random), None),
+    }
+}
+
+/// A stream near or above the limit.
+fn large(random: &mut Random) -> (&'static str, Vec<u8>, Option<Tree>) {
+    let size = 65_535 + random.below(12) - 8;
+    let mut tree = filled(random.pick(&[4, 13]), size, random);
+    if random.one_in(3) {
+        let mut stream = grow(1, 0, random);
+        stream.nested.push(tree);
+        tree = stream;
+    }
+    let mut bytes = tree.bytes();
+    match random.below(6) {
+        0 | 1 => damage_bytes(&mut bytes, random),
+        2 => bytes.resize(size + random.below(9_000), 0),
+        _ => {}
+    }
+    ("streams: near the limit or above it", bytes, None)
+}
+
+fn round(tally: &mut Tally) {
+    // Each round has random numbers of its own, so that it does not depend on those before it.
+    let random = &mut Random::new(tally.seed ^ tally.round.wrapping_mul(0xD134_2543_DE82_EF95));
+    let (kind, stream, tree) = stream(random);
+    tally.count(kind);
+    readers::compare(tally, &stream, tree.as_ref(), random);
+    builders::compare(tally, random);
+    tally.round += 1;
+}
+
+fn fixed(tally: &mut Tally) {
+    for (label, bytes, owed) in samples() {
+        assert_eq!(check(&bytes), owed, "{label}");
+    }
+    for (_, bytes) in cases() {
+        readers::compare_check(tally, &bytes);
+        tally.count("streams: the stored cases of the check");
+    }
+    builders::largest(tally);
+}
+
+fn reached(tally: &Tally) -> [u64; 4] {
+    [
+        tally.reader_calls(),
+        tally.counted("hand-made reader places"),
+        tally.counted("hand-made builder places"),
+        tally.builder_calls(),
+    ]
+}
+
+fn main() {
+    let words: Vec<String> = std::env::args().skip(1).collect();
+    let usage = "usage: diff SECONDS|long SEED";
+    let [how_long, seed] = &words[..] else { panic!("{usage}") };
+    let seconds: Option<u64> = match how_long.as_str() {
+        "long" => None,
+        seconds => Some(seconds.parse().expect(usage)),
+    };
+    let mut tally = Tally::new(seed.parse().expect(usage));
+    let begun = Instant::now();
+    let mut told = begun;
+    fixed(&mut tally);
+    loop {
+        round(&mut tally);
+        if !tally.round.is_multiple_of(64) {
+            continue;
+        }
+        let figures = reached(&tally);
+        let done = match seconds {
+            Some(seconds) => begun.elapsed() >= Duration::from_secs(seconds),
+            None => figures.iter().zip(&LONG).all(|(have, least)| have >= least),
+        };
+        if seconds.is_none() && (done || told.elapsed() >= Duration::from_secs(2)) {
+            let [calls, places, builder_places, builder_calls] = figures;
+            eprint!(
+                "\r{} s: {calls} reader calls, {places} + {builder_places} places, {builder_calls} builder calls",
+                begun.elapsed().as_secs()
+            );
+            told = Instant::now();
+        }
+        if done {
+            break;
+        }
+    }
+    if seconds.is_none() {
+        eprintln!();
+    }
+    let good = tally.report();
+    println!("seed {}, {} rounds, {} s", tally.seed, tally.round, begun.elapsed().as_secs());
+    println!("{}", if good { "no difference" } else { "FAILED" });
+    std::process::exit(i32::from(!good));
+}

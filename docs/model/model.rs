@@ -1,0 +1,55 @@
+//! The model as a program of its own, without an archive.
+//!   model check FILE   the check's number, and the count of units or the offset
+//!   model list FILE    what the listing program writes
+//!   model inputs       the stored cases of the check, as cdf_check_cases reads them
+//!   model answers      the check's answer to each
+//!   model build-inputs the stored cases of the builder, as cdf_build_cases reads them
+//!   model build-answers
+//!                      what that program is to write
+
+use cdf_model::build_cases::build_cases;
+use cdf_model::build_run::BuildCase;
+use cdf_model::{cases, check, samples};
+use std::fs::File;
+use std::io::{self, Read, Write};
+
+fn answer(stream: &[u8]) -> String {
+    match check::check(stream) {
+        Ok(units) => format!("0 {units}"),
+        Err(refusal) => format!("{} {}", refusal.number, refusal.offset),
+    }
+}
+
+/// The first 65,536 bytes: one more than a stream may have.
+fn read(path: &str) -> io::Result<Vec<u8>> {
+    let mut bytes = Vec::new();
+    File::open(path)?.take(65_536).read_to_end(&mut bytes)?;
+    Ok(bytes)
+}
+
+fn main() -> io::Result<()> {
+    for (label, bytes, owed) in samples::samples() {
+        assert_eq!(check::check(&bytes), owed, "{label}");
+    }
+    let words: Vec<String> = std::env::args().skip(1).collect();
+    let words: Vec<&str> = words.iter().map(String::as_str).collect();
+    let text = match words[..] {
+        ["check", path] => answer(&read(path)?) + "\n",
+        ["list", path] => check::listing(&read(path)?),
+        ["inputs"] => lines(|bytes| ":".to_string() + &cases::written(bytes)),
+        ["answers"] => lines(|bytes| " ".to_string() + &answer(bytes)),
+        ["build-inputs"] => build_cases().iter().map(BuildCase::input).collect(),
+        ["build-answers"] => build_cases().iter().map(BuildCase::answer).collect(),
+        _ => {
+            eprintln!("usage: model check FILE | list FILE | inputs | answers | build-inputs | build-answers");
+            std::process::exit(2);
+        }
+    };
+    io::stdout().write_all(text.as_bytes())
+}
+
+/// A line for each case: its label, and what is said of its bytes.
+fn lines(said: impl Fn(&[u8]) -> String) -> String {
+    let line = |(label, bytes): &cases::Case| format!("{label}{}\n", said(bytes));
+    cases::cases().iter().map(line).collect()
+}

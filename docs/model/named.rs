@@ -1,0 +1,64 @@
+//! The stored cases of the check that have a name of their own.
+
+use crate::cases::{complete, nested, unit, unit_with, A, N};
+use crate::rules::MARK;
+use crate::samples::{changed, K1, K12, K2};
+
+/// A file group: fifteen full lines, 4,096 bytes each, then a line with this many.
+pub fn sixteen_lines(last: usize) -> Vec<u8> {
+    let mut lines = unit(14, &[&[b'x'; 4096]]).repeat(15);
+    lines.extend(unit(14, &[&vec![b'x'; last]]));
+    unit(13, &[&lines])
+}
+
+pub fn named() -> Vec<(&'static str, Vec<u8>)> {
+    let full = sixteen_lines(3993);
+    let [call, parameter, group, template, key, value_key, field, entity, rel_key, file, line] =
+        [2, 3, 4, 5, 6, 7, 8, 11, 12, 13, 14].map(complete);
+    let short = &line[..5];
+    vec![
+        ("full", full.clone()),
+        ("full-and-one", [&full[..], b"x"].concat()),
+        ("zeros", vec![0; 65_536]),
+        ("full-wrapped", sixteen_lines(3994)),
+        ("full-last-early", changed(&full, 61_538, &[0x0F, 0x9E])),
+        ("full-last-late", changed(&full, 61_538, &[0x0F, 0xA0])),
+        ("full-stream", unit(1, &[&call, &sixteen_lines(3979)])),
+        ("full-of-units", unit(13, &[&line.repeat(10_920), &unit(14, &[b"xyz"])])),
+        ("marks-in-lines", unit(13, &[&unit(14, &[&MARK]), &unit(14, &[K1]), &unit(14, &[K2]), &unit(14, &[short])])),
+        ("marks-in-template", unit(4, &[&unit(5, &[A, &unit(7, &[K1]), &unit(8, &[A, K2]), &unit(8, &[A, &MARK])])])),
+        ("marks-in-relation", unit(4, &[&unit(9, &[&MARK, &MARK, &unit(12, &[&MARK, &MARK]), &entity])])),
+        ("marks-in-parameter", unit(1, &[&unit(2, &[A, &unit(3, &[A, K12]), &unit(3, &[A, &MARK])])])),
+        ("stream", unit(1, &[&unit(2, &[A, &parameter, &parameter]), &group, &call, &call, &file, &call])),
+        ("second-group", unit(1, &[&call, &group, &group])),
+        ("second-file", unit(1, &[&call, &file, &file])),
+        ("mixed-keys", unit(4, &[&unit(5, &[A, &key, &value_key, &key, &field, &field])])),
+        ("key-after-field", unit(4, &[&unit(5, &[A, &key, &field, &value_key, &key])])),
+        ("five-deep", unit(1, &[&call, &unit(4, &[&unit(9, &[N, &entity, &unit(11, &[A, &value_key, &key])])])])),
+        ("five-deep-fault", unit(1, &[&call, &unit(4, &[&unit(9, &[N, &unit(11, &[A, &key, &[0; 6]])])])])),
+        ("no-call", unit(1, &[])),
+        ("no-template", unit(4, &[])),
+        ("no-line", unit(13, &[])),
+        ("no-line-inside", unit(1, &[&call, &unit(13, &[]), &call])),
+        ("no-key", unit(4, &[&unit(5, &[A])])),
+        ("no-key-inside", unit(1, &[&call, &unit(4, &[&template, &unit(5, &[A]), &template]), &call])),
+        ("no-entity-key", unit(4, &[&unit(9, &[N, &unit(11, &[A]), &rel_key])])),
+        ("no-entity-key-innermost", unit(4, &[&unit(9, &[N, &unit(11, &[A])])])),
+        ("name-past-end", unit(1, &[&unit(2, &[b"\x05MERG"])])),
+        ("name-past-unit", changed(K12, 9, &[0x0B])),
+        ("mark-zeros", vec![0; 6]),
+        ("mark-swapped", changed(K1, 0, &[0xF1, 0xCD])),
+        ("two-roots", [K1, K1].concat()),
+        // Two rules are broken, and the first in the label is the one met.
+        ("both-3-4", vec![0; 5]),
+        ("both-3-7", nested(&[9, 12, 11], short)),
+        ("both-4-5", changed(K1, 1, &[0, 0, 0])),
+        ("both-4-7", nested(&[9, 12, 11], &[0; 6])),
+        ("both-5-6", changed(K1, 8, &[0, 5, 9, 15])),
+        ("both-7-8", unit(13, &[&unit_with(5, 9, &[])])),
+        ("both-8-9", unit(4, &[&unit_with(5, 0, &[b"\x01a"])])),
+        ("both-9-10", unit(4, &[&unit(5, &[b"\x01a"])])),
+        ("both-10-3", unit(4, &[&unit(5, &[A]), &[0]])),
+        ("both-10-4", unit(4, &[&unit(5, &[A]), &[0; 6]])),
+    ]
+}

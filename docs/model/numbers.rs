@@ -1,0 +1,173 @@
+//! Places, answers and logs as the numbers that cross the C boundary.
+
+use crate::builder;
+use crate::check::listing;
+use crate::reader::{self, call, Call, Open, Place, Reply};
+use crate::rules::{Had, Unit};
+
+pub type ReaderNumbers = [u64; 20];
+pub type BuilderNumbers = [u64; 10];
+
+/// The states 1 to 28: an id, and what such a unit has had.
+const STATES: [(u64, Had); 28] = [
+    (1, Had::Nothing),
+    (1, Had::Call),
+    (1, Had::Group),
+    (1, Had::Skipped),
+    (4, Had::Nothing),
+    (4, Had::Units),
+    (4, Had::Skipped),
+    (13, Had::Nothing),
+    (13, Had::Units),
+    (13, Had::Skipped),
+    (2, Had::Nothing),
+    (2, Had::Units),
+    (2, Had::Skipped),
+    (5, Had::Nothing),
+    (5, Had::Keys),
+    (5, Had::Fields),
+    (5, Had::Skipped),
+    (9, Had::Nothing),
+    (9, Had::One),
+    (9, Had::Two),
+    (9, Had::Skipped),
+    (10, Had::Nothing),
+    (10, Had::One),
+    (10, Had::Two),
+    (10, Had::Skipped),
+    (11, Had::Nothing),
+    (11, Had::Keys),
+    (11, Had::Skipped),
+];
+
+/// Id 0 where the number is no state.
+fn state(number: u64) -> (u64, Had) {
+    match number {
+        1..=28 => STATES[number as usize - 1],
+        _ => (0, Had::Nothing),
+    }
+}
+
+/// 0 where there is no such state.
+pub fn state_number(id: u64, had: Had) -> u64 {
+    let found = STATES.iter().position(|state| *state == (id, had));
+    found.map_or(0, |index| index as u64 + 1)
+}
+
+/// Which slot each of so many open units is in, from the root inwards: the innermost is in the first. More than six are
+/// not told apart from six, and there are four slots.
+fn slots(count: u64) -> impl Iterator<Item = usize> {
+    let count = count.min(6) as usize;
+    (1..=count).map(move |level| if level == count { 0 } else { level })
+}
+
+pub fn reader_place(numbers: &ReaderNumbers) -> Place {
+    let unit = |slot: usize| {
+        let at = 2 + 3 * slot;
+        let [state_number, start, end] = match slot {
+            0..=3 => [numbers[at], numbers[at + 1], numbers[at + 2]],
+            _ => [0; 3],
+        };
+        let (id, had) = state(state_number);
+        Open { id, had, start, end }
+    };
+    Place {
+        position: numbers[0],
+        open: slots(numbers[1]).map(unit).collect(),
+        last: Unit { id: numbers[14], action: numbers[15], start: numbers[16], own: numbers[17], end: numbers[18] },
+        fresh: numbers[19] != 0,
+    }
+}
+
+/// The numbers of a place with at most four open units; zeros in the slots that they leave.
+pub fn of_reader_place(place: &Place) -> ReaderNumbers {
+    let mut numbers = [0; 20];
+    numbers[0] = place.position;
+    numbers[1] = place.open.len() as u64;
+    for (slot, unit) in slots(numbers[1]).zip(&place.open) {
+        let unit = [state_number(unit.id, unit.had), unit.start, unit.end];
+        numbers[2 + 3 * slot..5 + 3 * slot].copy_from_slice(&unit);
+    }
+    numbers[14..19].copy_from_slice(&of_unit(place.last));
+    numbers[19] = u64::from(place.fresh);
+    numbers
+}
+
+pub fn builder_place(numbers: &BuilderNumbers) -> builder::Place {
+    let unit = |slot: usize| {
+        let at = 2 + 2 * slot;
+        let [state_number, start] = match slot {
+            0..=3 => [numbers[at], numbers[at + 1]],
+            _ => [0; 2],
+        };
+        let (id, had) = state(state_number);
+        builder::Open { id, had, start }
+    };
+    builder::Place { written: numbers[0], open: slots(numbers[1]).map(unit).collect() }
+}
+
+pub fn of_builder_place(place: &builder::Place) -> BuilderNumbers {
+    let mut numbers = [0; 10];
+    numbers[0] = place.written;
+    numbers[1] = place.open.len() as u64;
+    for (slot, unit) in slots(numbers[1]).zip(&place.open) {
+        let unit = [state_number(unit.id, unit.had), unit.start];
+        numbers[2 + 2 * slot..4 + 2 * slot].copy_from_slice(&unit);
+    }
+    numbers
+}
+
+fn of_unit(unit: Unit) -> [u64; 5] {
+    [unit.id, unit.action, unit.start, unit.own, unit.end]
+}
+
+/// Offset, unit and part.
+pub fn answer(reply: &Reply) -> [u64; 8] {
+    let [id, action, start, own, end] = of_unit(reply.unit);
+    let (part, length) = reply.part;
+    [reply.offset, id, action, start, own, end, part, length]
+}
+
+/// The calls that a list of codes may name, from code 1 on.
+pub const CODES: [Call; 5] = [Call::First, Call::Next, Call::Skip, Call::GetStream, Call::Previous];
+
+/// Runs a list of calls and writes the log: number, offset, part and unit of each. Gives the number, and how many
+/// entries it wrote.
+pub fn replay(stream: &[u8], codes: &[u8], log: &mut [u64]) -> (u64, u64) {
+    if log.len() / 9 < codes.len() {
+        return (12, 0);
+    }
+    let mut place = Place::default();
+    let mut entries = 0;
+    for (code, entry) in codes.iter().zip(log.chunks_exact_mut(9)) {
+        let known = usize::from(*code).checked_sub(1);
+        let Some(code) = known.and_then(|index| CODES.get(index)) else {
+            break;
+        };
+        let reply = call(*code, stream, &place);
+        let head = [reply.number, reply.offset, reply.part.0, reply.part.1];
+        entry[..4].copy_from_slice(&head);
+        entry[4..].copy_from_slice(&of_unit(reply.unit));
+        place = reply.place;
+        entries += 1;
+    }
+    (0, entries)
+}
+
+/// Writes the listing if there is room. Gives the number, and the text's length.
+pub fn listed(stream: &[u8], room: &mut [u8]) -> (u64, u64) {
+    let text = listing(stream);
+    match room.get_mut(..text.len()) {
+        None => (12, 0),
+        Some(front) => {
+            front.copy_from_slice(text.as_bytes());
+            (0, text.len() as u64)
+        }
+    }
+}
+
+/// A reader call on a place in numbers: number, answer and new place.
+pub fn reader_call(which: Call, stream: &[u8], numbers: &ReaderNumbers) -> (u64, [u64; 8], reader::Place) {
+    let reply = call(which, stream, &reader_place(numbers));
+    (reply.number, answer(&reply), reply.place)
+}

@@ -1,0 +1,181 @@
+//! The reader with places (document 01, Check and reader).
+
+use crate::rules::{admits_kind, after, complete, is_group, is_root, opens, possible, unit_at, Around, Had, Unit};
+
+/// An open unit. The id is 0 where a caller's numbers tell none.
+#[derive(Clone, Copy, PartialEq, Debug)]
+pub struct Open {
+    pub id: u64,
+    pub had: Had,
+    pub start: u64,
+    pub end: u64,
+}
+
+#[derive(Clone, Default, PartialEq, Debug)]
+pub struct Place {
+    pub position: u64,
+    /// From the root inwards.
+    pub open: Vec<Open>,
+    pub last: Unit,
+    /// Whether the last unit may still be skipped.
+    pub fresh: bool,
+}
+
+#[derive(Clone, Copy, PartialEq, Debug)]
+pub enum Call {
+    First,
+    Next,
+    Skip,
+    GetStream,
+    Previous,
+    AbnormalEnd,
+}
+
+pub struct Reply {
+    pub number: u64,
+    pub offset: u64,
+    pub unit: Unit,
+    /// Start and length.
+    pub part: (u64, u64),
+    pub place: Place,
+}
+
+/// The clauses of the rule by which a place fits, in its order.
+pub const CLAUSES: [&str; 18] = [
+    "from one to five open units",
+    "outermost unit: kind of a root",
+    "other units: a parent of a kind admitted around it",
+    "outermost unit: starts at 0",
+    "other units: start a prefix further inside",
+    "ends do not grow inwards",
+    "outermost unit: ends at n",
+    "every state possible",
+    "innermost start + 6 <= position",
+    "position <= innermost end",
+    "last start + 6 <= own end",
+    "own end <= end",
+    "end <= n",
+    "skippable: the last id is the innermost's",
+    "skippable: the last start is the innermost's",
+    "skippable: the last end is the innermost's",
+    "skippable: it has had nothing",
+    "skippable: the position is its own end",
+];
+
+/// Whether `more` is at least 6 after `start`, in numbers without a bound.
+pub fn six_on(start: u64, more: u64) -> bool {
+    u128::from(start) + 6 <= u128::from(more)
+}
+
+impl Place {
+    /// The clauses that do not hold for n bytes, one bit each.
+    pub fn missed(&self, n: u64) -> u32 {
+        let (open, last) = (&self.open, &self.last);
+        let (Some(outermost), Some(innermost)) = (open.first(), open.last()) else {
+            return 1;
+        };
+        let each = |holds: &dyn Fn(&Open, &Open) -> bool| open.windows(2).all(|pair| holds(&pair[0], &pair[1]));
+        let holds = [
+            open.len() <= 5,
+            is_root(outermost.id),
+            each(&|outer, inner| admits_kind(outer.id, inner.id) && opens(inner.id)),
+            outermost.start == 0,
+            each(&|outer, inner| six_on(outer.start, inner.start)),
+            each(&|outer, inner| inner.end <= outer.end),
+            outermost.end == n,
+            open.iter().all(|unit| possible(unit.id).contains(&unit.had)),
+            six_on(innermost.start, self.position),
+            self.position <= innermost.end,
+            six_on(last.start, last.own),
+            last.own <= last.end,
+            last.end <= n,
+            !self.fresh || last.id == innermost.id,
+            !self.fresh || last.start == innermost.start,
+            !self.fresh || last.end == innermost.end,
+            !self.fresh || innermost.had == Had::Nothing,
+            !self.fresh || self.position == last.own,
+        ];
+        let bits = holds.iter().zip(0..).filter(|(holds, _)| !**holds);
+        bits.map(|(_, bit)| 1 << bit).sum()
+    }
+
+    fn fits(&self, stream: &[u8]) -> bool {
+        self.missed(stream.len() as u64) == 0
+    }
+}
+
+fn refuse(number: u64, offset: u64, place: Place) -> Reply {
+    Reply { number, offset, unit: Unit::default(), part: (0, 0), place }
+}
+
+/// Opens a unit that has been found if it admits others, and hands it out.
+fn hand_out(mut place: Place, unit: Unit) -> Reply {
+    place.fresh = opens(unit.id);
+    place.position = unit.end;
+    if place.fresh {
+        place.position = unit.own;
+        place.open.push(Open { id: unit.id, had: Had::Nothing, start: unit.start, end: unit.end });
+    }
+    place.last = unit;
+    Reply { unit, ..refuse(0, 0, place) }
+}
+
+fn first(stream: &[u8]) -> Reply {
+    match unit_at(stream, 0, stream.len() as u64, Around::Root) {
+        Ok(root) => hand_out(Place::default(), root),
+        Err(refusal) => refuse(refusal.number, refusal.offset, Place::default()),
+    }
+}
+
+fn next(stream: &[u8], place: &Place) -> Reply {
+    let mut left = place.clone();
+    while let Some(innermost) = left.open.last().copied() {
+        if innermost.end == place.position {
+            if !complete(innermost.id, innermost.had) {
+                return refuse(10, innermost.start, place.clone());
+            }
+            left.open.pop();
+            continue;
+        }
+        let admits = |id| after(innermost.id, innermost.had, id).is_some();
+        let around = Around::Admits(&admits);
+        return match unit_at(stream, place.position, innermost.end, around) {
+            Err(refusal) => refuse(refusal.number, refusal.offset, place.clone()),
+            Ok(unit) => {
+                let had = after(innermost.id, innermost.had, unit.id);
+                left.open.last_mut().unwrap().had = had.unwrap();
+                hand_out(left, unit)
+            }
+        };
+    }
+    refuse(1, 0, place.clone())
+}
+
+/// The place after its last unit, the innermost open one, was skipped or taken.
+fn skipped(place: &Place) -> Place {
+    let mut place = place.clone();
+    place.position = place.last.end;
+    place.fresh = false;
+    place.open.last_mut().unwrap().had = Had::Skipped;
+    place
+}
+
+pub fn call(call: Call, stream: &[u8], place: &Place) -> Reply {
+    let last = place.last;
+    let nothing_to_do = place.open.is_empty()
+        || match call {
+            Call::Skip => !place.fresh || !opens(last.id),
+            Call::GetStream => !place.fresh || !is_group(last.id),
+            _ => false,
+        };
+    match call {
+        Call::First => first(stream),
+        Call::AbnormalEnd => refuse(0, 0, Place::default()),
+        _ if nothing_to_do => refuse(11, 0, place.clone()),
+        _ if !place.fits(stream) => refuse(2, 0, place.clone()),
+        Call::Next => next(stream, place),
+        Call::Skip => refuse(0, 0, skipped(place)),
+        Call::GetStream => Reply { part: (last.start, last.end - last.start), ..refuse(0, 0, skipped(place)) },
+        Call::Previous => Reply { unit: last, ..refuse(0, 0, place.clone()) },
+    }
+}

@@ -1,0 +1,34 @@
+//! The samples K1 to K12 of document 01.
+
+use crate::rules::Refusal;
+
+pub const K1: &[u8] = b"\xCD\xF1\x00\x10\x00\x0D\xCD\xF1\x00\x0A\x00\x0E\xC3\x89va";
+pub const K2: &[u8] = b"\xCD\xF1\x00\x2E\x00\x04\xCD\xF1\x00\x28\x01\x05\x06PERSON\
+    \xCD\xF1\x00\x0A\x00\x06\x00\x00\x00\x01\xCD\xF1\x00\x11\x01\x08\x07SURNAME\xC3\x85s";
+pub const K12: &[u8] = b"\xCD\xF1\x00\x12\x00\x01\xCD\xF1\x00\x0C\x00\x02\x05MERGE";
+
+/// The bytes with these in place of those at the offset.
+pub fn changed(bytes: &[u8], offset: usize, values: &[u8]) -> Vec<u8> {
+    let mut bytes = bytes.to_vec();
+    bytes[offset..offset + values.len()].copy_from_slice(values);
+    bytes
+}
+
+/// Each sample with the answer that the check owes.
+pub fn samples() -> [(&'static str, Vec<u8>, Result<u64, Refusal>); 12] {
+    let refused = |number, offset| Err(Refusal { number, offset });
+    [
+        ("K1", K1.to_vec(), Ok(2)),
+        ("K2", K2.to_vec(), Ok(4)),
+        ("K3", vec![], refused(3, 0)),
+        ("K4", b"\xCD\xF1\x00\x06\x00\x0D".to_vec(), refused(10, 0)),
+        ("K5", changed(K1, 3, &[0x0F]), refused(5, 0)),
+        ("K6", changed(K1, 9, &[0x0B]), refused(5, 6)),
+        ("K7", changed(K1, 9, &[0x09]), refused(3, 15)),
+        ("K8", changed(K2, 9, &[0x17]), refused(7, 29)),
+        ("K9", changed(K2, 1, &[0xF0]), refused(4, 0)),
+        ("K10", changed(K2, 33, &[0x00]), refused(8, 29)),
+        ("K11", changed(K2, 13, &[0x31]), refused(9, 6)),
+        ("K12", K12.to_vec(), Ok(2)),
+    ]
+}

@@ -1,0 +1,177 @@
+//! What was compared, how often, and with which numbers; and the end of a run at the first difference.
+
+use cdf_model::{builder, reader};
+use std::collections::BTreeMap;
+
+/// The functions of the archive, in the order of `CAN_GIVE`.
+#[derive(Clone, Copy, PartialEq)]
+pub enum Function {
+    Check,
+    First,
+    Next,
+    Skip,
+    GetStream,
+    Previous,
+    AbnormalEnd,
+    Replay,
+    Listing,
+    BuildFirst,
+    BuildNext,
+    AddStream,
+    Finish,
+}
+
+impl From<reader::Call> for Function {
+    fn from(call: reader::Call) -> Function {
+        match call {
+            reader::Call::First => Function::First,
+            reader::Call::Next => Function::Next,
+            reader::Call::Skip => Function::Skip,
+            reader::Call::GetStream => Function::GetStream,
+            reader::Call::Previous => Function::Previous,
+            reader::Call::AbnormalEnd => Function::AbnormalEnd,
+        }
+    }
+}
+
+/// The numbers that each function can give.
+const CAN_GIVE: [(&str, &[usize]); 13] = [
+    ("cdf_check", &[0, 3, 4, 5, 6, 7, 8, 9, 10]),
+    ("cdf_first", &[0, 3, 4, 5, 6, 7, 8]),
+    ("cdf_next", &[0, 1, 2, 3, 4, 5, 6, 7, 8, 9, 10, 11]),
+    ("cdf_skip", &[0, 2, 11]),
+    ("cdf_get_stream", &[0, 2, 11]),
+    ("cdf_previous", &[0, 2, 11]),
+    ("cdf_abnormal_end", &[0]),
+    ("cdf_replay", &[0, 12]),
+    ("cdf_listing", &[0, 12]),
+    ("cdf_build_first", &[0, 6, 7, 12]),
+    ("cdf_build_next", &[0, 2, 6, 7, 8, 9, 10, 12, 13]),
+    ("cdf_build_add_stream", &[0, 2, 7, 10, 12, 13, 14]),
+    ("cdf_build_finish", &[0, 2, 10]),
+];
+const READER: std::ops::Range<usize> = 1..7;
+const BUILDER: std::ops::Range<usize> = 9..13;
+
+/// The clauses of the reader's rule, by their place in it, that need not be missed alone: a place with no open unit gets
+/// 11, one with more than four has units of no kind, and a number that is no state tells no kind either.
+const NOT_ASKED: [usize; 2] = [0, 7];
+
+pub struct Tally {
+    pub seed: u64,
+    pub round: u64,
+    met: [[u64; 15]; 13],
+    kinds: BTreeMap<&'static str, u64>,
+    /// How many hand-made places missed one clause alone.
+    reader_missed: [u64; reader::CLAUSES.len()],
+    builder_missed: [u64; builder::CLAUSES.len()],
+}
+
+impl Tally {
+    pub fn new(seed: u64) -> Tally {
+        Tally {
+            seed,
+            round: 0,
+            met: [[0; 15]; 13],
+            kinds: BTreeMap::new(),
+            reader_missed: [0; reader::CLAUSES.len()],
+            builder_missed: [0; builder::CLAUSES.len()],
+        }
+    }
+
+    pub fn count(&mut self, kind: &'static str) {
+        *self.kinds.entry(kind).or_default() += 1;
+    }
+
+    pub fn counted(&self, start: &str) -> u64 {
+        let kinds = self.kinds.iter().filter(|(kind, _)| kind.starts_with(start));
+        kinds.map(|(_, count)| count).sum()
+    }
+
+    pub fn met(&mut self, function: Function, number: u64) {
+        self.met[function as usize][number as usize] += 1;
+    }
+
+    pub fn reader_place(&mut self, missed: u32) {
+        if missed.count_ones() == 1 {
+            self.reader_missed[missed.trailing_zeros() as usize] += 1;
+        }
+    }
+
+    pub fn builder_place(&mut self, missed: u32) {
+        if missed.count_ones() == 1 {
+            self.builder_missed[missed.trailing_zeros() as usize] += 1;
+        }
+    }
+
+    fn calls(&self, of: std::ops::Range<usize>) -> u64 {
+        self.met[of].iter().flatten().sum()
+    }
+
+    pub fn reader_calls(&self) -> u64 {
+        self.calls(READER)
+    }
+
+    pub fn builder_calls(&self) -> u64 {
+        self.calls(BUILDER)
+    }
+
+    /// Ends the run: the two sides differ, or the model contradicts itself.
+    pub fn differ(&self, what: &str, given: &str, one: &str, other: &str) -> ! {
+        println!("\nDIFFERENCE in {what} (seed {}, round {})", self.seed, self.round);
+        println!("given:   {given}\narchive: {one}\nmodel:   {other}");
+        std::process::exit(1);
+    }
+
+    /// Prints the figures. False if a number was not met that the function can give, or met that it cannot, or if a clause
+    /// was never missed alone.
+    pub fn report(&self) -> bool {
+        let mut good = true;
+        println!("compared:");
+        for (kind, count) in &self.kinds {
+            println!("{count:>12} {kind}");
+        }
+        println!("{:>12} reader calls, one by one", self.reader_calls());
+        println!("{:>12} builder calls", self.builder_calls());
+        println!("numbers met by each function:");
+        for ((name, can_give), met) in CAN_GIVE.iter().zip(&self.met) {
+            let mut figures = Vec::new();
+            let mut wrong = Vec::new();
+            for (number, times) in met.iter().enumerate() {
+                let expected = can_give.contains(&number);
+                if expected || *times > 0 {
+                    figures.push(format!("{number}: {times}"));
+                }
+                if expected != (*times > 0) {
+                    wrong.push(number);
+                }
+            }
+            println!("{name:>22}  {}", figures.join(", "));
+            if !wrong.is_empty() {
+                println!("FAILED: {name} and the numbers {wrong:?}");
+                good = false;
+            }
+        }
+        let (reader, builder) = (&reader::CLAUSES, &builder::CLAUSES);
+        good &= alone("reader", reader, &self.reader_missed, &NOT_ASKED);
+        good &= alone("builder", builder, &self.builder_missed, &[]);
+        good
+    }
+}
+
+/// Prints how often each clause of a rule was the only one that a hand-made place missed.
+fn alone(of: &str, clauses: &[&str], missed: &[u64], not_asked: &[usize]) -> bool {
+    let mut good = true;
+    println!("hand-made places of the {of} that missed one clause alone:");
+    for (index, (clause, missed)) in clauses.iter().zip(missed).enumerate() {
+        if not_asked.contains(&index) {
+            continue;
+        }
+        println!("{missed:>12} {clause}");
+        if *missed == 0 {
+            println!("FAILED: never missed alone");
+            good = false;
+        }
+    }
+    good
+}
