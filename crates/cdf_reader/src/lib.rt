@@ -1,34 +1,28 @@
 // The reader: a place goes in with each call and a new one comes back.
 ghost use mathlib.Core.Path.{_≡_};
-ghost use mathlib.Core.Bool.{true, _||_};
-ghost use Prim.Native.Nat.{_+_, _≤_};
+ghost use mathlib.Core.Bool.{true};
+ghost use Prim.Native.Nat.{_+_};
 ghost use denote.Ref.{ptr};
 ghost use lib.ListN.{length};
-ghost use Rattle.cdf_table.specs.States.{opens};
-ghost use Rattle.cdf_units.specs.Stack.{found, opened, step};
-ghost use Rattle.cdf_units.specs.Units.{after};
+ghost use Rattle.cdf_units.specs.Stack.{step};
 ghost use Rattle.cdf_prefix.specs.Layout.{layoutOf};
 ghost use Rattle.cdf_prefix.specs.declared.Edition.the-variants.{First};
 ghost use Rattle.cdf_place.specs.Place.{fits};
-ghost use Rattle.cdf_place.specs.Calls.{noUnit, refuse, stepped, firstOf, nextOf, untouched, passed, skipOf, takeOf, previousOf, abnormalEnd, callOf};
+ghost use Rattle.cdf_place.specs.Calls.{noUnit, firstOf, nextOf, passed, skipOf, takeOf, previousOf, abnormalEnd, callOf};
 ghost use Rattle.cdf_place.specs.declared.Call.the-variants.{Previous};
-ghost use Rattle.cdf_place.specs.Slots.{noOpen, openUnits};
+ghost use Rattle.cdf_place.specs.Slots.{noOpen};
 ghost use Rattle.cdf_reader.specs.View.{view, replyOf, partAt, bytesOf, noPlace, refusal};
-ghost use Rattle.cdf_reader.specs.Left.{outside, leftIn, Closed};
-ghost use Rattle.cdf_reader.specs.Uses.{isStart, hasUse, placeKept};
+ghost use Rattle.cdf_reader.specs.Uses.{isStart, placeKept};
 use cdf_fit::fits;
 use cdf_judge::Judged;
-use cdf_judge::judge;
 use cdf_judge::judge_root;
 use cdf_place::Call;
 use cdf_prefix::Edition;
-use cdf_table::ER_GROUP;
-use cdf_table::FILE_GROUP;
-use cdf_table::first_state;
-use cdf_table::is_complete;
-use cdf_table::skipped_state;
 use cdf_units::Open;
 use cdf_units::Unit;
+
+mod steps;
+mod uses;
 
 // Where a reader is: the position; how many units are open, `top` the innermost of them and `o1` to `o3` those around it, from the
 // outermost inwards; the last unit handed out, and whether that one may still be skipped. Which place of the format this is, its
@@ -110,141 +104,6 @@ fn refused(number: usize, offset: usize, place: Place) -> Answer
     }
 }
 
-// The unit around the innermost of so many, two to four.
-fn around(count: usize, o1: Open, o2: Open, o3: Open) -> Open
-    ensures { λ r. ⌜ r ≡ outside count o1 o2 o3 ⌝ }
-{
-    if count == 2 {
-        return o1;
-    }
-    if count == 3 {
-        return o2;
-    }
-    o3
-}
-
-// Closes the complete units that end at the position, innermost first.
-fn close(position: usize, count: usize, top: Open, o1: Open, o2: Open, o3: Open) -> Left
-    requires { ⌜ count ≤ 4 ⌝ }
-    ensures { λ r. ⌜ Closed position (openUnits count top o1 o2 o3) o1 o2 o3 (r .count) (r .top) ⌝ }
-{
-    let mut left = count;
-    let mut inner = top;
-    while 0 < left {
-        if inner.end != position {
-            return Left {
-                count: left,
-                top: inner,
-            };
-        }
-        if !is_complete(inner.state) {
-            return Left {
-                count: left,
-                top: inner,
-            };
-        }
-        inner = around(left, o1, o2, o3);
-        left = left - 1;
-    }
-    Left {
-        count: left,
-        top: inner,
-    }
-}
-
-// The answer that hands out a unit in the innermost of the units left open, which is then in this state. A unit that admits others
-// is opened.
-fn enter(p: Place, left: Left, unit: Unit, state: usize) -> Answer
-    requires { ⌜ (1 ≤ left .count) × (left .count ≤ 4) × (opens (unit .id) ≡ true → left .count ≤ 3) ⌝ }
-    ensures { λ r. ⌜ replyOf r ≡ stepped (view p) (found unit (opened unit (leftIn p (left .count) (left .top) state)) (after unit)) ⌝ }
-{
-    let count = left.count;
-    let outer = Open {
-        state,
-        start: left.top.start,
-        end: left.top.end,
-    };
-    let o1 = p.o1;
-    let o2 = p.o2;
-    let o3 = p.o3;
-    let first = first_state(unit.id);
-    if first == 0 {
-        let place = Place {
-            position: unit.end,
-            count,
-            top: outer,
-            o1,
-            o2,
-            o3,
-            last: unit,
-            fresh: false,
-        };
-        return Answer {
-            number: 0,
-            offset: 0,
-            unit,
-            place,
-        };
-    }
-    let inner = Open {
-        state: first,
-        start: unit.start,
-        end: unit.end,
-    };
-    if count == 1 {
-        let place = Place {
-            position: unit.own,
-            count: 2,
-            top: inner,
-            o1: outer,
-            o2,
-            o3,
-            last: unit,
-            fresh: true,
-        };
-        return Answer {
-            number: 0,
-            offset: 0,
-            unit,
-            place,
-        };
-    }
-    if count == 2 {
-        let place = Place {
-            position: unit.own,
-            count: 3,
-            top: inner,
-            o1,
-            o2: outer,
-            o3,
-            last: unit,
-            fresh: true,
-        };
-        return Answer {
-            number: 0,
-            offset: 0,
-            unit,
-            place,
-        };
-    }
-    let place = Place {
-        position: unit.own,
-        count: 4,
-        top: inner,
-        o1,
-        o2,
-        o3: outer,
-        last: unit,
-        fresh: true,
-    };
-    Answer {
-        number: 0,
-        offset: 0,
-        unit,
-        place,
-    }
-}
-
 // A start is the one call that needs no place.
 pub fn is_start(call: Call) -> bool
     ensures { λ r. ⌜ r ≡ isStart call ⌝ }
@@ -280,119 +139,6 @@ impl Place {
             last,
             self.fresh,
         )
-    }
-
-    // What NEXT does with a place that fits.
-    fn step(self, edition: Edition, s: &[u8]) -> Answer
-        requires { ⌜ fits (layoutOf edition) (length (now s)) (view self) ≡ true ⌝ }
-        ensures is { λ r. ⌜ replyOf r ≡ stepped (view self) (step (layoutOf edition) (now (s .entry)) (view self .units) (self .position)) ⌝ }
-        ensures kept { λ r. ⌜ ((r .number ≡ 0 → ⊥) → r .place ≡ self) ⌝ }
-    {
-        let top = self.top;
-        let o1 = self.o1;
-        let o2 = self.o2;
-        let o3 = self.o3;
-        let at = self.position;
-        let left = close(at, self.count, top, o1, o2, o3);
-        if left.count == 0 {
-            return refused(1, 0, self);
-        }
-        let stop = left.top.end;
-        if stop == at {
-            return refused(10, left.top.start, self);
-        }
-        match judge(edition, left.top.state, &s[at..stop]) {
-            Judged::Fault { number, offset } => {
-                let place = at + offset;
-                refused(number, place, self)
-            }
-            Judged::Found {
-                id,
-                action,
-                own,
-                length,
-                state,
-            } => {
-                let own_end = at + own;
-                let end = at + length;
-                let unit = Unit {
-                    id,
-                    action,
-                    start: at,
-                    own: own_end,
-                    end,
-                };
-                enter(self, left, unit, state)
-            }
-        }
-    }
-
-    // The place past the last unit, which stays open and is skipped.
-    fn passed(self) -> Answer
-        ensures { λ r. ⌜ replyOf r ≡ refuse 0 0 (passed (view self)) ⌝ }
-    {
-        let top = self.top;
-        let o1 = self.o1;
-        let o2 = self.o2;
-        let o3 = self.o3;
-        let last = self.last;
-        let state = skipped_state(top.state);
-        let passed = Open {
-            state,
-            start: top.start,
-            end: top.end,
-        };
-        let place = Place {
-            position: last.end,
-            count: self.count,
-            top: passed,
-            o1,
-            o2,
-            o3,
-            last,
-            fresh: false,
-        };
-        refused(0, 0, place)
-    }
-
-    // Whether the last unit was not entered, skipped or taken, and admits others.
-    fn is_untouched(self) -> bool
-        ensures { λ r. ⌜ r ≡ untouched (view self) ⌝ }
-    {
-        if self.count == 0 {
-            return false;
-        }
-        if !self.fresh {
-            return false;
-        }
-        first_state(self.last.id) != 0
-    }
-
-    // Whether the call has something to do; 11 else.
-    fn has_use(self, call: Call) -> bool
-        ensures { λ r. ⌜ r ≡ hasUse (view self) call ⌝ }
-    {
-        match call {
-            Call::Start => true,
-            Call::Next => self.count != 0,
-            Call::Skip => self.is_untouched(),
-            Call::GetStream => {
-                let may = self.is_untouched();
-                let id = self.last.id;
-                may & ((id == ER_GROUP) | (id == FILE_GROUP))
-            }
-            Call::Previous => self.count != 0,
-        }
-    }
-
-    // Whether the call may go on with this place; 2 else.
-    fn is_ready(self, edition: Edition, n: usize, call: Call) -> bool
-        ensures { λ r. ⌜ r ≡ (isStart call || fits (layoutOf edition) n (view self)) ⌝ }
-    {
-        if is_start(call) {
-            return true;
-        }
-        self.is_fit(edition, n)
     }
 
     // NEXT alone, for callers that need no other call: it is faster without the tests for which call it is.

@@ -6,8 +6,8 @@ use Rattle.cdf_units.specs.Stack.{withState}
 use Rattle.cdf_place.specs.Slots.{around, openUnits}
 use Rattle.cdf_table.proofs.Rows.{opens-by}
 use Rattle.cdf_reader.proofs.Entered.{leaf, pushed}
-use Rattle.cdf_reader.proofs.enter.Statement.{statement}
-use Rattle.cdf_reader.proofs.enter.Tie as tie
+use Rattle.cdf_reader.proofs.steps.enter.Statement.{statement}
+use Rattle.cdf_reader.proofs.steps.enter.Tie as tie
 
 first-state-requires : tie.Need-first-state-requires
 first-state-requires c κs = search needs

@@ -5,8 +5,8 @@ use borrow.Author.Needs.{needs}
 use borrow.Author.Tests.{not-true, not-false}
 use Rattle.cdf_place.specs.Slots.{openUnits}
 use Rattle.cdf_reader.proofs.Closings.{Going, begun, stopped, on}
-use Rattle.cdf_reader.proofs.close.Statement.{statement}
-use Rattle.cdf_reader.proofs.close.Tie as tie
+use Rattle.cdf_reader.proofs.steps.close.Statement.{statement}
+use Rattle.cdf_reader.proofs.steps.close.Tie as tie
 
 abbrev Inv-loop : tie.InvT-loop
 Inv-loop position count o1 o2 o3 left₀ inner₀ left inner = Going position (openUnits count inner₀ o1 o2 o3) o1 o2 o3 left inner

@@ -1,7 +1,7 @@
 -- By the count.
 use borrow.Author.Tests.{eq-eqb, ne-eqb}
-use Rattle.cdf_reader.proofs.around.Statement.{statement}
-use Rattle.cdf_reader.proofs.around.Tie as tie
+use Rattle.cdf_reader.proofs.steps.around.Statement.{statement}
+use Rattle.cdf_reader.proofs.steps.around.Tie as tie
 
 returns : tie.Need-returns
 returns c = rw (eq-eqb _ 2 (c .if1 .taken))
