@@ -1,6 +1,8 @@
-//! What the codes are compared on: four streams of about 60,000 bytes, damaged copies of them, and samples K1 to K12.
+//! What the codes are compared on: streams of four kinds and three sizes, damaged copies of them, and samples K1 to K12.
 
-use crate::plain::Unit;
+use crate::codes::Case;
+use crate::compare::case;
+use crate::rules::Unit;
 
 /// The random numbers are the same in every run (SplitMix64).
 pub struct Random(u64);
@@ -33,15 +35,14 @@ impl Random {
 
 /// A unit with its own data and the units nested in it, as bytes.
 fn unit(id: u8, action: u8, own: &[u8], nested: &[u8]) -> Vec<u8> {
-    let length =
-        u16::try_from(6 + own.len() + nested.len()).expect("a stream has at most 65,535 bytes");
+    let length = u16::try_from(6 + own.len() + nested.len()).expect("a stream has at most 65,535 bytes");
     let [high, low] = length.to_be_bytes();
     [&[0xCD, 0xF1, high, low, action, id], own, nested].concat()
 }
 
 const NAMES: [&str; 12] = [
-    "SURNAME", "GIVEN", "SEX", "BORN_ON", "BORN_AT", "DIED_ON", "NOTE_1", "SOURCE2", "PERSON",
-    "FAMILY", "EVENT", "TITLE",
+    "SURNAME", "GIVEN", "SEX", "BORN_ON", "BORN_AT", "DIED_ON", "NOTE_1", "SOURCE2", "PERSON", "FAMILY", "EVENT",
+    "TITLE",
 ];
 
 fn name(random: &mut Random) -> Vec<u8> {
@@ -61,35 +62,27 @@ fn key(random: &mut Random) -> Vec<u8> {
 fn field(random: &mut Random) -> Vec<u8> {
     let action = random.pick(&[1, 2, 3, 4]);
     let length = random.between(2, 8);
-    unit(
-        8,
-        action,
-        &[name(random), random.bytes(length)].concat(),
-        &[],
-    )
+    unit(8, action, &[name(random), random.bytes(length)].concat(), &[])
 }
 
-/// How many bytes the units of a stream take before no more are added.
-const ENOUGH: usize = 59_960;
-
-fn many(random: &mut Random, one: impl Fn(&mut Random) -> Vec<u8>) -> Vec<u8> {
+/// Units until a stream has about as many bytes as wanted.
+fn many(random: &mut Random, size: usize, one: impl Fn(&mut Random) -> Vec<u8>) -> Vec<u8> {
     let mut units = Vec::new();
-    while units.len() < ENOUGH {
+    while units.len() + 40 < size {
         units.extend(one(random));
     }
     units
 }
 
 /// One template with one key and small fields.
-fn fields() -> Vec<u8> {
-    let random = &mut Random::new(1);
-    let nested = [key(random), many(random, field)].concat();
+fn fields(random: &mut Random, size: usize) -> Vec<u8> {
+    let nested = [key(random), many(random, size, field)].concat();
     unit(4, 0, &[], &unit(5, 1, b"\x06PERSON", &nested))
 }
 
 /// Templates with a key and three fields each.
-fn templates() -> Vec<u8> {
-    let nested = many(&mut Random::new(2), |random| {
+fn templates(random: &mut Random, size: usize) -> Vec<u8> {
+    let nested = many(random, size, |random| {
         let action = random.pick(&[1, 2, 3, 4]);
         let nested = [key(random), field(random), field(random), field(random)].concat();
         unit(5, action, &name(random), &nested)
@@ -98,11 +91,11 @@ fn templates() -> Vec<u8> {
 }
 
 /// Relations between two entity keys with one key each, in a group behind a call: nested five deep.
-fn relations() -> Vec<u8> {
+fn relations(random: &mut Random, size: usize) -> Vec<u8> {
     fn entity_key(random: &mut Random) -> Vec<u8> {
         unit(11, 0, &name(random), &key(random))
     }
-    let nested = many(&mut Random::new(3), |random| {
+    let nested = many(random, size, |random| {
         let action = random.pick(&[1, 2, 4]);
         let nested = [entity_key(random), entity_key(random)].concat();
         unit(9, action, &random.bytes(4), &nested)
@@ -112,21 +105,37 @@ fn relations() -> Vec<u8> {
 }
 
 /// A file of short lines.
-fn lines() -> Vec<u8> {
-    let nested = many(&mut Random::new(4), |random| {
+fn lines(random: &mut Random, size: usize) -> Vec<u8> {
+    let nested = many(random, size, |random| {
         let length = random.between(4, 23);
         unit(14, 0, &random.bytes(length), &[])
     });
     unit(13, 0, &[], &nested)
 }
 
-pub fn streams() -> [(&'static str, Vec<u8>); 4] {
-    [
-        ("fields", fields()),
-        ("templates", templates()),
-        ("relations", relations()),
-        ("lines", lines()),
-    ]
+/// Streams of one kind and of about one size. They have some 60,000 bytes together, whatever the size: so the caches and
+/// the branches that the processor learns are alike for all sizes.
+pub struct Set {
+    pub name: &'static str,
+    pub size: usize,
+    pub cases: Vec<Case>,
+}
+
+pub const SIZES: [usize; 3] = [1_000, 8_000, 60_000];
+
+/// Size by size, the four kinds of each.
+pub fn sets() -> Vec<Set> {
+    let kinds: [(&str, fn(&mut Random, usize) -> Vec<u8>); 4] =
+        [("fields", fields), ("templates", templates), ("relations", relations), ("lines", lines)];
+    let mut sets = Vec::new();
+    for size in SIZES {
+        for (name, kind) in kinds {
+            let random = &mut Random::new((size + sets.len()) as u64);
+            let cases = (0..60_000_usize.div_ceil(size)).map(|_| case(kind(random, size))).collect();
+            sets.push(Set { name, size, cases });
+        }
+    }
+    sets
 }
 
 /// A copy of a stream with these units, damaged in one or two places so that every refusal is met.
@@ -147,11 +156,7 @@ pub fn damaged(stream: &[u8], units: &[Unit], random: &mut Random) -> Vec<u8> {
                 bytes[place] = random.pick(b"\x00\x21@AZ[_09a");
             }
             // Too short or too long by a little: the next unit seems to stand inside this one or past its own start.
-            5 => set_length(
-                &mut bytes,
-                at.start,
-                (at.end - at.start + random.below(15)).saturating_sub(7),
-            ),
+            5 => set_length(&mut bytes, at.start, (at.end - at.start + random.below(15)).saturating_sub(7)),
             // Ends with its own data: incomplete, or without its value.
             6 => set_length(&mut bytes, at.start, at.own - at.start),
             // Cut short inside this unit, with the root's length mended or not.
@@ -184,19 +189,11 @@ pub fn samples() -> [Sample; 12] {
     const K2: &[u8] = b"\xCD\xF1\x00\x2E\x00\x04\xCD\xF1\x00\x28\x01\x05\x06PERSON\
         \xCD\xF1\x00\x0A\x00\x06\x00\x00\x00\x01\xCD\xF1\x00\x11\x01\x08\x07SURNAME\xC3\x85s";
     const K12: &[u8] = b"\xCD\xF1\x00\x12\x00\x01\xCD\xF1\x00\x0C\x00\x02\x05MERGE";
-    let sample = |name, bytes: &[u8], answer| Sample {
-        name,
-        bytes: bytes.to_vec(),
-        answer,
-    };
+    let sample = |name, bytes: &[u8], answer| Sample { name, bytes: bytes.to_vec(), answer };
     let changed = |name, of: &[u8], place: usize, byte: u8, answer| {
         let mut bytes = of.to_vec();
         bytes[place] = byte;
-        Sample {
-            name,
-            bytes,
-            answer,
-        }
+        Sample { name, bytes, answer }
     };
     [
         sample("K1", K1, (0, 2)),

@@ -1,0 +1,139 @@
+//! The proved functions: those of the joined archive, a second version of them where `run` links one, and `cdf_walk`.
+
+/// Position; how many units are open; state, start and end of the innermost, then of the others from the root
+/// inwards; id, action, start, own end and end of the last unit; whether it may still be skipped.
+pub type Place = [u64; 20];
+pub const LAST: std::ops::Range<usize> = 14..19;
+/// Offset; id, action, start, own end and end of the unit; start and length of the part.
+pub type Answer = [u64; 8];
+/// Bytes written; how many units are open; state and start of each.
+pub type BuildPlace = [u64; 10];
+
+pub trait Archive {
+    const NAME: &'static str;
+    fn check(stream: &[u8], answer: &mut [u64; 1]) -> u64;
+    fn first(stream: &[u8], place: &mut Place, answer: &mut Answer) -> u64;
+    fn next(stream: &[u8], place: &mut Place, answer: &mut Answer) -> u64;
+    fn replay(stream: &[u8], calls: &[u8], log: &mut [u64], answer: &mut [u64; 1]) -> u64;
+    fn build_first(buffer: &mut [u8], root: u64, place: &mut BuildPlace) -> u64;
+    fn build_next(buffer: &mut [u8], place: &mut BuildPlace, id: u64, action: u64, data: &[u8]) -> u64;
+    fn build_finish(buffer: &[u8], place: &BuildPlace, answer: &mut [u64; 1]) -> u64;
+    fn listing(stream: &[u8], text: &mut [u8], answer: &mut [u64; 1]) -> u64;
+}
+
+macro_rules! archive {
+    ($archive:ident, $name:literal, $check:ident, $first:ident, $next:ident, $replay:ident, $build_first:ident,
+     $build_next:ident, $build_finish:ident, $listing:ident) => {
+        extern "C" {
+            fn $check(stream: *const u8, length: usize, answer: &mut [u64; 1]) -> u64;
+            fn $first(stream: *const u8, length: usize, place: &mut Place, answer: &mut Answer) -> u64;
+            fn $next(stream: *const u8, length: usize, place: &mut Place, answer: &mut Answer) -> u64;
+            fn $replay(
+                stream: *const u8,
+                length: usize,
+                calls: *const u8,
+                count: usize,
+                log: *mut u64,
+                numbers: usize,
+                answer: &mut [u64; 1],
+            ) -> u64;
+            fn $build_first(buffer: *mut u8, length: usize, root: u64, place: &mut BuildPlace) -> u64;
+            fn $build_next(
+                buffer: *mut u8,
+                length: usize,
+                place: &mut BuildPlace,
+                id: u64,
+                action: u64,
+                data: *const u8,
+                data_length: usize,
+            ) -> u64;
+            fn $build_finish(buffer: *const u8, length: usize, place: &BuildPlace, answer: &mut [u64; 1]) -> u64;
+            fn $listing(
+                stream: *const u8,
+                length: usize,
+                text: *mut u8,
+                text_length: usize,
+                answer: &mut [u64; 1],
+            ) -> u64;
+        }
+
+        pub struct $archive;
+
+        // SAFETY of all: pointer and length are those of a slice, what is written is lent alone, and the functions are
+        // proved safe on any bytes and any place.
+        impl Archive for $archive {
+            const NAME: &'static str = $name;
+            #[inline(always)]
+            fn check(stream: &[u8], answer: &mut [u64; 1]) -> u64 {
+                unsafe { $check(stream.as_ptr(), stream.len(), answer) }
+            }
+            #[inline(always)]
+            fn first(stream: &[u8], place: &mut Place, answer: &mut Answer) -> u64 {
+                unsafe { $first(stream.as_ptr(), stream.len(), place, answer) }
+            }
+            #[inline(always)]
+            fn next(stream: &[u8], place: &mut Place, answer: &mut Answer) -> u64 {
+                unsafe { $next(stream.as_ptr(), stream.len(), place, answer) }
+            }
+            #[inline(always)]
+            fn replay(stream: &[u8], calls: &[u8], log: &mut [u64], answer: &mut [u64; 1]) -> u64 {
+                let (count, numbers) = (calls.len(), log.len());
+                unsafe {
+                    $replay(stream.as_ptr(), stream.len(), calls.as_ptr(), count, log.as_mut_ptr(), numbers, answer)
+                }
+            }
+            #[inline(always)]
+            fn build_first(buffer: &mut [u8], root: u64, place: &mut BuildPlace) -> u64 {
+                unsafe { $build_first(buffer.as_mut_ptr(), buffer.len(), root, place) }
+            }
+            #[inline(always)]
+            fn build_next(buffer: &mut [u8], place: &mut BuildPlace, id: u64, action: u64, data: &[u8]) -> u64 {
+                let length = buffer.len();
+                unsafe { $build_next(buffer.as_mut_ptr(), length, place, id, action, data.as_ptr(), data.len()) }
+            }
+            #[inline(always)]
+            fn build_finish(buffer: &[u8], place: &BuildPlace, answer: &mut [u64; 1]) -> u64 {
+                unsafe { $build_finish(buffer.as_ptr(), buffer.len(), place, answer) }
+            }
+            #[inline(always)]
+            fn listing(stream: &[u8], text: &mut [u8], answer: &mut [u64; 1]) -> u64 {
+                unsafe { $listing(stream.as_ptr(), stream.len(), text.as_mut_ptr(), text.len(), answer) }
+            }
+        }
+    };
+}
+
+archive!(
+    Now,
+    "",
+    cdf_check,
+    cdf_first,
+    cdf_next,
+    cdf_replay,
+    cdf_build_first,
+    cdf_build_next,
+    cdf_build_finish,
+    cdf_listing
+);
+#[cfg(before)]
+archive!(
+    Before,
+    "before: ",
+    before_cdf_check,
+    before_cdf_first,
+    before_cdf_next,
+    before_cdf_replay,
+    before_cdf_build_first,
+    before_cdf_build_next,
+    before_cdf_build_finish,
+    before_cdf_listing
+);
+
+/// The proved loop of FIRST and NEXTs, folded: it is no part of the joined archive.
+pub fn proved_walk(stream: &[u8]) -> u64 {
+    extern "C" {
+        fn cdf_walk(stream: *const u8, length: usize) -> u64;
+    }
+    // SAFETY: as above.
+    unsafe { cdf_walk(stream.as_ptr(), stream.len()) }
+}

@@ -1,0 +1,196 @@
+//! The codes that are timed, by part: the first two of a part are plain Rust, inlined and out of line.
+
+use crate::archive::{proved_walk, Archive, Now};
+use crate::plain::{check, replay, walk, INLINED, OUT_OF_LINE};
+use crate::plain_write::{listing, Builder};
+use crate::rules::{opens, Unit};
+
+/// What a NEXT of the builder is asked to write; the data stand in the stream from `data` to `end`.
+pub struct Request {
+    pub id: u8,
+    pub action: u8,
+    data: usize,
+    end: usize,
+}
+
+/// A stream, the codes that replay it to its end, and the requests that build it.
+pub struct Case {
+    pub stream: Vec<u8>,
+    pub calls: Vec<u8>,
+    pub requests: Vec<Request>,
+}
+
+impl Case {
+    pub fn new(stream: Vec<u8>, units: &[Unit]) -> Case {
+        let mut calls = vec![2; units.len() + 1];
+        calls[0] = 1;
+        let requests = units.iter().map(|unit| Request {
+            id: unit.id,
+            action: unit.action,
+            data: unit.start + 6,
+            end: if opens(unit.id) { unit.own } else { unit.end },
+        });
+        Case { calls, requests: requests.collect(), stream }
+    }
+
+    #[inline(always)]
+    pub fn data(&self, request: &Request) -> &[u8] {
+        &self.stream[request.data..request.end]
+    }
+}
+
+/// As many bytes as any listing takes.
+pub const LISTING_ROOM: usize = 207_527;
+
+/// What the codes write into.
+pub struct Scratch {
+    pub log: Vec<u64>,
+    pub buffer: Vec<u8>,
+    pub text: Vec<u8>,
+    pub plain_text: Vec<u8>,
+}
+
+impl Scratch {
+    pub fn new() -> Scratch {
+        Scratch {
+            log: vec![0; 9 * 11_000],
+            buffer: vec![0; 65_535],
+            text: vec![0; LISTING_ROOM],
+            plain_text: Vec::with_capacity(LISTING_ROOM),
+        }
+    }
+}
+
+/// A code to be timed. It returns something of its result, so that none of it can be left out.
+pub struct Code {
+    pub name: String,
+    pub run: fn(&Case, &mut Scratch) -> u64,
+}
+
+pub struct Part {
+    pub name: &'static str,
+    pub codes: Vec<Code>,
+}
+
+fn plain_check<const CALLS: bool>(case: &Case, _: &mut Scratch) -> u64 {
+    match check::<CALLS>(&case.stream) {
+        Ok(units) => units as u64,
+        Err(stop) => stop.number as u64 + stop.offset as u64,
+    }
+}
+
+fn proved_check<A: Archive>(case: &Case, _: &mut Scratch) -> u64 {
+    let mut answer = [0];
+    A::check(&case.stream, &mut answer) + answer[0]
+}
+
+/// The walk's fold, by a call for each unit.
+pub fn single_calls<A: Archive>(case: &Case, _: &mut Scratch) -> u64 {
+    let mut place = [0; 20];
+    let mut answer = [0; 8];
+    let mut fold: u64 = 0;
+    let mut number = A::first(&case.stream, &mut place, &mut answer);
+    while number == 0 {
+        let [_, id, action, start, own, end, ..] = answer;
+        fold = fold.rotate_left(5) ^ start ^ own << 16 ^ end << 32 ^ id << 48 ^ action << 56;
+        number = A::next(&case.stream, &mut place, &mut answer);
+    }
+    fold ^ number << 57 ^ answer[0] << 3
+}
+
+fn plain_replay<const CALLS: bool>(case: &Case, scratch: &mut Scratch) -> u64 {
+    replay::<CALLS>(&case.stream, &case.calls, &mut scratch.log) as u64
+}
+
+fn proved_replay<A: Archive>(case: &Case, scratch: &mut Scratch) -> u64 {
+    let mut answer = [0];
+    A::replay(&case.stream, &case.calls, &mut scratch.log, &mut answer) + answer[0]
+}
+
+/// The length of what is built, or the first refusal.
+pub fn plain_build<const CALLS: bool>(case: &Case, scratch: &mut Scratch) -> u64 {
+    let (root, others) = case.requests.split_first().expect("a stream has a root");
+    let built = Builder::first(&mut scratch.buffer, root.id).and_then(|mut builder| {
+        for request in others {
+            let data = case.data(request);
+            if CALLS {
+                builder.next_out_of_line(request.id, request.action, data)?;
+            } else {
+                builder.next(request.id, request.action, data)?;
+            }
+        }
+        builder.finish()
+    });
+    built.map_or_else(|number| number as u64, |length| length as u64)
+}
+
+pub fn proved_build<A: Archive>(case: &Case, scratch: &mut Scratch) -> u64 {
+    let (root, others) = case.requests.split_first().expect("a stream has a root");
+    let mut place = [0; 10];
+    let mut number = A::build_first(&mut scratch.buffer, root.id as u64, &mut place);
+    for request in others {
+        if number != 0 {
+            return number;
+        }
+        let (id, action) = (request.id as u64, request.action as u64);
+        number = A::build_next(&mut scratch.buffer, &mut place, id, action, case.data(request));
+    }
+    let mut answer = [0];
+    match A::build_finish(&scratch.buffer, &place, &mut answer) {
+        0 => answer[0],
+        number => number,
+    }
+}
+
+fn plain_listing<const CALLS: bool>(case: &Case, scratch: &mut Scratch) -> u64 {
+    listing::<CALLS>(&case.stream, &mut scratch.plain_text);
+    scratch.plain_text.len() as u64
+}
+
+fn proved_listing<A: Archive>(case: &Case, scratch: &mut Scratch) -> u64 {
+    let mut answer = [0];
+    A::listing(&case.stream, &mut scratch.text, &mut answer) + answer[0]
+}
+
+/// With room for no text the listing is counted, and 12 answered.
+fn counted_listing<A: Archive>(case: &Case, scratch: &mut Scratch) -> u64 {
+    let mut answer = [0];
+    A::listing(&case.stream, &mut scratch.text[..1], &mut answer) + answer[0]
+}
+
+fn version<A: Archive>(parts: &mut [Part; 5]) {
+    let runs: [(&str, fn(&Case, &mut Scratch) -> u64); 5] = [
+        ("cdf_check", proved_check::<A>),
+        ("cdf_first, cdf_next", single_calls::<A>),
+        ("cdf_replay", proved_replay::<A>),
+        ("cdf_build_*", proved_build::<A>),
+        ("cdf_listing", proved_listing::<A>),
+    ];
+    for (part, (name, run)) in parts.iter_mut().zip(runs) {
+        part.codes.push(Code { name: format!("{}{name}", A::NAME), run });
+    }
+    parts[4].codes.push(Code { name: format!("{}cdf_listing, no room", A::NAME), run: counted_listing::<A> });
+}
+
+pub fn parts() -> [Part; 5] {
+    fn part(
+        name: &'static str,
+        inlined: fn(&Case, &mut Scratch) -> u64,
+        out_of_line: fn(&Case, &mut Scratch) -> u64,
+    ) -> Part {
+        let code = |form, run| Code { name: format!("{name}: plain, {form}"), run };
+        Part { name, codes: vec![code("inlined", inlined), code("out of line", out_of_line)] }
+    }
+    let mut parts = [
+        part("check", plain_check::<INLINED>, plain_check::<OUT_OF_LINE>),
+        part("reader", |case, _| walk::<INLINED>(&case.stream), |case, _| walk::<OUT_OF_LINE>(&case.stream)),
+        part("replay", plain_replay::<INLINED>, plain_replay::<OUT_OF_LINE>),
+        part("builder", plain_build::<INLINED>, plain_build::<OUT_OF_LINE>),
+        part("listing", plain_listing::<INLINED>, plain_listing::<OUT_OF_LINE>),
+    ];
+    parts[1].codes.push(Code { name: "cdf_walk".to_string(), run: |case, _| proved_walk(&case.stream) });
+    version::<Now>(&mut parts);
+    #[cfg(before)]
+    version::<crate::archive::Before>(&mut parts);
+    parts
+}

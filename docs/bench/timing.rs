@@ -1,0 +1,92 @@
+//! The rounds, and the tables of their ratios.
+
+use crate::codes::{Part, Scratch};
+use crate::streams::Set;
+use std::hint::black_box;
+use std::time::Instant;
+
+/// How many codes of a part are plain Rust: inlined, and out of line.
+const PLAIN: usize = 2;
+
+/// The times of each code in each round, in nanoseconds a byte. A round runs all codes over the set, each time beginning
+/// with another, so that a slow moment of the machine meets all alike.
+fn time(part: &Part, set: &Set, rounds: usize) -> Vec<Vec<f64>> {
+    const RUNS: usize = 5;
+    let codes = &part.codes;
+    let bytes = set.cases.iter().map(|case| case.stream.len()).sum::<usize>() as f64;
+    let scratch = &mut Scratch::new();
+    let mut times = vec![vec![0.0; rounds]; codes.len()];
+    for round in 0..rounds {
+        for turn in 0..codes.len() {
+            let code = (round + turn) % codes.len();
+            let begin = Instant::now();
+            for _ in 0..RUNS {
+                for case in &set.cases {
+                    black_box((codes[code].run)(black_box(case), black_box(&mut *scratch)));
+                }
+            }
+            times[code][round] = begin.elapsed().as_nanos() as f64 / RUNS as f64 / bytes;
+        }
+    }
+    times
+}
+
+fn best(times: &[f64]) -> f64 {
+    times.iter().copied().fold(f64::INFINITY, f64::min)
+}
+
+fn median(mut values: Vec<f64>) -> f64 {
+    values.sort_by(f64::total_cmp);
+    values[values.len() / 2]
+}
+
+/// The ratio of the best times, and the median of the ratios within a round.
+fn ratios(times: &[f64], plain: &[f64]) -> String {
+    let within = times.iter().zip(plain).map(|(a, b)| a / b).collect();
+    format!("{:.2} / {:.2}", best(times) / best(plain), median(within))
+}
+
+fn row(cells: &[String]) -> String {
+    format!("| {} |", cells.join(" | "))
+}
+
+fn heading(columns: &[String]) -> String {
+    let head = [&["code".to_string(), "stream".to_string()], columns].concat();
+    format!("{}\n|{}", row(&head), "---|".repeat(head.len()))
+}
+
+/// The sets are those of all kinds, by size: `sizes` one after the other, each with all kinds in one order.
+pub fn tables(parts: &[Part], sets: &[Set], sizes: &[usize], rounds: usize) {
+    let kinds = sets.len() / sizes.len();
+    let (mut to_plain, mut costs) = (Vec::new(), Vec::new());
+    for part in parts {
+        for kind in 0..kinds {
+            let of_kind: Vec<&Set> = sets.iter().skip(kind).step_by(kinds).collect();
+            let times: Vec<_> = of_kind.iter().map(|set| time(part, set, rounds)).collect();
+            for (at, code) in part.codes.iter().enumerate() {
+                let names = [code.name.clone(), of_kind[0].name.to_string()];
+                let longest = best(&times[sizes.len() - 1][at]);
+                let each = |cell: &dyn Fn(&Vec<Vec<f64>>) -> String| times.iter().map(cell).collect::<Vec<_>>();
+                let cost = each(&|times| format!("{:.2}", best(&times[at])));
+                let flat = each(&|times| format!("{:.2}", best(&times[at]) / longest));
+                if at >= PLAIN {
+                    let inlined = each(&|times| ratios(&times[at], &times[0]));
+                    let out_of_line = each(&|times| ratios(&times[at], &times[1]));
+                    to_plain.push(row(&[&names[..], &inlined, &out_of_line, &flat[..sizes.len() - 1]].concat()));
+                }
+                costs.push(row(&[&names[..], &cost, &flat].concat()));
+            }
+        }
+    }
+    let by_size = |what: &str| sizes.iter().map(|size| format!("{what}{} kB", size / 1000)).collect::<Vec<_>>();
+    let flat = by_size("by byte, ");
+    println!("\n{rounds} rounds; to plain Rust, ratio of the best times / median of the rounds' ratios; then the cost by byte");
+    println!("as a ratio to that of the longest streams, by the best times\n");
+    println!(
+        "{}",
+        heading(&[by_size("inlined, "), by_size("out of line, "), flat[..sizes.len() - 1].to_vec()].concat())
+    );
+    println!("{}", to_plain.join("\n"));
+    println!("\nof all codes: best times in nanoseconds a byte, and as a ratio to that of the longest streams\n");
+    println!("{}\n{}", heading(&[by_size("ns, "), flat].concat()), costs.join("\n"));
+}
