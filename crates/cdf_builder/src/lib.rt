@@ -1,7 +1,5 @@
 // The builder: a place goes in with each call and a new one comes back; the buffer is lent.
 ghost use mathlib.Core.Path.{_≡_};
-ghost use mathlib.Core.List.{[]};
-ghost use Prim.Native.Nat.{_<_};
 ghost use lib.ListN.{length};
 ghost use Rattle.cdf_prefix.specs.Layout.{layoutOf};
 ghost use Rattle.cdf_prefix.specs.declared.Edition.the-variants.{First};

@@ -1,8 +1,6 @@
 // The own data of a unit, on the bytes after its prefix.
 ghost use mathlib.Core.Path.{_≡_};
-ghost use mathlib.Core.Bool.{Bool};
-ghost use Prim.Native.Nat.{ℕ, _≤_, _<_};
-ghost use lib.ListN.{length};
+ghost use Prim.Native.Nat.{_≤_};
 ghost use Rattle.cdf_data.specs.Data.{letter, nameByte, nameRun, nameOf, valueFrom, valueAfter, numbersOf, ownData};
 use cdf_table::CALL;
 use cdf_table::ENTITY_KEY;

@@ -15,7 +15,7 @@ use Rattle.cdf_reader.specs.View.{view, noPlace}
 use Rattle.cdf_reader.specs.Uses.{isStart}
 use Rattle.cdf_reader.specs.declared.Place.{Place}
 
--- Three numbers from k on: the state, the start and the end of an open unit.
+-- The open unit whose state, start and end stand at these three entries.
 abbrev pub openFrom : List ℕ → ℕ → ℕ → ℕ → Open
 openFrom a i j k = record { state = getD a i 0; start = getD a j 0; end = getD a k 0 }
 

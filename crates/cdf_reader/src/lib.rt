@@ -1,18 +1,17 @@
 // The reader: a place goes in with each call and a new one comes back.
 ghost use mathlib.Core.Path.{_≡_};
-ghost use mathlib.Core.Bool.{true};
 ghost use Prim.Native.Nat.{_+_};
 ghost use denote.Ref.{ptr};
-ghost use lib.ListN.{length};
-ghost use Rattle.cdf_units.specs.Stack.{step};
 ghost use Rattle.cdf_prefix.specs.Layout.{layoutOf};
 ghost use Rattle.cdf_prefix.specs.declared.Edition.the-variants.{First};
 ghost use Rattle.cdf_place.specs.Place.{fits};
-ghost use Rattle.cdf_place.specs.Calls.{noUnit, firstOf, nextOf, passed, skipOf, takeOf, previousOf, abnormalEnd, callOf};
+ghost use Rattle.cdf_place.specs.Calls.{firstOf, nextOf, skipOf, takeOf, previousOf, abnormalEnd, callOf};
 ghost use Rattle.cdf_place.specs.declared.Call.the-variants.{Previous};
-ghost use Rattle.cdf_place.specs.Slots.{noOpen};
-ghost use Rattle.cdf_reader.specs.View.{view, replyOf, partAt, bytesOf, noPlace, refusal};
+ghost use Rattle.cdf_reader.specs.View.{view, replyOf, partAt, bytesOf, noPlace};
 ghost use Rattle.cdf_reader.specs.Uses.{isStart, placeKept};
+use crate::nothing::no_open;
+use crate::nothing::no_place;
+use crate::nothing::refused;
 use cdf_fit::fits;
 use cdf_judge::Judged;
 use cdf_judge::judge_root;
@@ -21,6 +20,7 @@ use cdf_prefix::Edition;
 use cdf_units::Open;
 use cdf_units::Unit;
 
+mod nothing;
 mod steps;
 mod uses;
 
@@ -50,58 +50,6 @@ pub struct Answer {
 struct Left {
     count: usize,
     top: Open,
-}
-
-fn no_unit() -> Unit
-    ensures { λ r. ⌜ r ≡ noUnit ⌝ }
-{
-    Unit {
-        id: 0,
-        action: 0,
-        start: 0,
-        own: 0,
-        end: 0,
-    }
-}
-
-fn no_open() -> Open
-    ensures { λ r. ⌜ r ≡ noOpen ⌝ }
-{
-    Open {
-        state: 0,
-        start: 0,
-        end: 0,
-    }
-}
-
-// The empty place, all zeros.
-fn no_place() -> Place
-    ensures { λ r. ⌜ r ≡ noPlace ⌝ }
-{
-    let o = no_open();
-    let u = no_unit();
-    Place {
-        position: 0,
-        count: 0,
-        top: o,
-        o1: o,
-        o2: o,
-        o3: o,
-        last: u,
-        fresh: false,
-    }
-}
-
-fn refused(number: usize, offset: usize, place: Place) -> Answer
-    ensures { λ r. ⌜ r ≡ refusal number offset place ⌝ }
-{
-    let unit = no_unit();
-    Answer {
-        number,
-        offset,
-        unit,
-        place,
-    }
 }
 
 // A start is the one call that needs no place.

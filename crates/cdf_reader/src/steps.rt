@@ -1,7 +1,7 @@
 // What NEXT does: it closes units, judges the one at the position and enters it.
 ghost use mathlib.Core.Path.{_≡_};
 ghost use mathlib.Core.Bool.{true};
-ghost use Prim.Native.Nat.{_+_, _≤_};
+ghost use Prim.Native.Nat.{_≤_};
 ghost use lib.ListN.{length};
 ghost use Rattle.cdf_table.specs.States.{opens};
 ghost use Rattle.cdf_units.specs.Stack.{found, opened, step};
@@ -15,7 +15,7 @@ ghost use Rattle.cdf_reader.specs.Left.{outside, leftIn, Closed};
 use crate::Answer;
 use crate::Left;
 use crate::Place;
-use crate::refused;
+use crate::nothing::refused;
 use cdf_fit::fits;
 use cdf_judge::Judged;
 use cdf_judge::judge;

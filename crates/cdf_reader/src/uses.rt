@@ -1,6 +1,6 @@
 // What SKIP and GET_STREAM do, and what every call asks first.
 ghost use mathlib.Core.Path.{_≡_};
-ghost use mathlib.Core.Bool.{true, _||_};
+ghost use mathlib.Core.Bool.{_||_};
 ghost use Rattle.cdf_prefix.specs.Layout.{layoutOf};
 ghost use Rattle.cdf_place.specs.Place.{fits};
 ghost use Rattle.cdf_place.specs.Calls.{refuse, untouched, passed};
@@ -9,7 +9,7 @@ ghost use Rattle.cdf_reader.specs.Uses.{isStart, hasUse};
 use crate::Answer;
 use crate::Place;
 use crate::is_start;
-use crate::refused;
+use crate::nothing::refused;
 use cdf_fit::fits;
 use cdf_place::Call;
 use cdf_prefix::Edition;

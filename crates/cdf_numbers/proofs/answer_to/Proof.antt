@@ -22,15 +22,17 @@ write-answer-requires c κs = search needs
 is-kept-requires : tie.Need-is-kept-requires
 is-kept-requires c κs = search needs
 
-returns : tie.Need-returns
-returns c =
-    let kept = c .before in
-    let wrote = kept .before in
+-- What is known once the call is made and its answer is written, whichever way the place goes.
+answered : (c : tie.After-is-kept) →
+    let call = c .before .before .before .before in
+    let a = call .before .before .before .before .args in
+    Answered (a .call) (a .s .now) (a .place .now) (call .call .result) (c .before .write-answer .last .1 .1 .0)
+answered c =
+    let wrote = c .before in
     let part = wrote .before .before in
     let call = part .before in
     let read = call .before in
-    let a = read .before .before .before .args in
-    let answered : Answered (a .call) (a .s .now) (a .place .now) (call .call .result) _ = record {
+    record {
       place = read .place-from .result;
       read = read .place-from .ensures;
       due = call .call .ensures .0;
@@ -38,8 +40,10 @@ returns c =
       part = record { start = part .part-by .result .start; size = part .part-by .result .size };
       by = part .part-by .ensures;
       written = wrote .write-answer .ensures;
-    } in
-    leaves-old answered (sym (kept .is-kept .ensures) ∙ c .if1 .taken)
+    }
+
+returns : tie.Need-returns
+returns c = leaves-old (answered (c .before)) (sym (c .before .is-kept .ensures) ∙ c .if1 .taken)
 
 write-place-requires : tie.Need-write-place-requires
 write-place-requires c κs = search needs
@@ -47,22 +51,7 @@ write-place-requires c κs = search needs
 returns-2 : tie.Need-returns-2
 returns-2 c =
     let new = c .before .before .before in
-    let kept = new .before in
-    let wrote = kept .before in
-    let part = wrote .before .before in
-    let call = part .before in
-    let read = call .before in
-    let a = read .before .before .before .args in
-    let answered : Answered (a .call) (a .s .now) (a .place .now) (call .call .result) _ = record {
-      place = read .place-from .result;
-      read = read .place-from .ensures;
-      due = call .call .ensures .0;
-      kept = call .call .ensures .1;
-      part = record { start = part .part-by .result .start; size = part .part-by .result .size };
-      by = part .part-by .ensures;
-      written = wrote .write-answer .ensures;
-    } in
-    leaves-new answered (sym (kept .is-kept .ensures) ∙ new .if1 .left) _ (c .write-place .ensures)
+    leaves-new (answered (new .before)) (sym (new .before .is-kept .ensures) ∙ new .if1 .left) _ (c .write-place .ensures)
 
 pub answer-to-spec : {M : Type 1} → statement M
 answer-to-spec =

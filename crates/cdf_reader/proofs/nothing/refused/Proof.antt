@@ -1,7 +1,7 @@
 -- The unit is one of zeros.
 use borrow.Author.Needs.{needs}
-use Rattle.cdf_reader.proofs.refused.Statement.{statement}
-use Rattle.cdf_reader.proofs.refused.Tie as tie
+use Rattle.cdf_reader.proofs.nothing.refused.Statement.{statement}
+use Rattle.cdf_reader.proofs.nothing.refused.Tie as tie
 
 no-unit-requires : tie.Need-no-unit-requires
 no-unit-requires c κs = search needs

@@ -1,7 +1,7 @@
 -- Zeros alone.
 use borrow.Author.Needs.{needs}
-use Rattle.cdf_reader.proofs.no_place.Statement.{statement}
-use Rattle.cdf_reader.proofs.no_place.Tie as tie
+use Rattle.cdf_reader.proofs.nothing.no_place.Statement.{statement}
+use Rattle.cdf_reader.proofs.nothing.no_place.Tie as tie
 
 no-open-requires : tie.Need-no-open-requires
 no-open-requires c κs = search needs
