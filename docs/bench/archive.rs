@@ -14,6 +14,8 @@ pub trait Archive {
     fn check(stream: &[u8], answer: &mut [u64; 1]) -> u64;
     fn first(stream: &[u8], place: &mut Place, answer: &mut Answer) -> u64;
     fn next(stream: &[u8], place: &mut Place, answer: &mut Answer) -> u64;
+    /// FIRST and NEXTs to the end, each called from C, folded.
+    fn walk(stream: &[u8]) -> u64;
     fn replay(stream: &[u8], calls: &[u8], log: &mut [u64], answer: &mut [u64; 1]) -> u64;
     fn build_first(buffer: &mut [u8], root: u64, place: &mut BuildPlace) -> u64;
     fn build_next(buffer: &mut [u8], place: &mut BuildPlace, id: u64, action: u64, data: &[u8]) -> u64;
@@ -22,12 +24,13 @@ pub trait Archive {
 }
 
 macro_rules! archive {
-    ($archive:ident, $name:literal, $check:ident, $first:ident, $next:ident, $replay:ident, $build_first:ident,
-     $build_next:ident, $build_finish:ident, $listing:ident) => {
+    ($archive:ident, $name:literal, $check:ident, $first:ident, $next:ident, $walk:ident, $replay:ident,
+     $build_first:ident, $build_next:ident, $build_finish:ident, $listing:ident) => {
         extern "C" {
             fn $check(stream: *const u8, length: usize, answer: &mut [u64; 1]) -> u64;
             fn $first(stream: *const u8, length: usize, place: &mut Place, answer: &mut Answer) -> u64;
             fn $next(stream: *const u8, length: usize, place: &mut Place, answer: &mut Answer) -> u64;
+            fn $walk(stream: *const u8, length: usize) -> u64;
             fn $replay(
                 stream: *const u8,
                 length: usize,
@@ -76,6 +79,10 @@ macro_rules! archive {
                 unsafe { $next(stream.as_ptr(), stream.len(), place, answer) }
             }
             #[inline(always)]
+            fn walk(stream: &[u8]) -> u64 {
+                unsafe { $walk(stream.as_ptr(), stream.len()) }
+            }
+            #[inline(always)]
             fn replay(stream: &[u8], calls: &[u8], log: &mut [u64], answer: &mut [u64; 1]) -> u64 {
                 let (count, numbers) = (calls.len(), log.len());
                 unsafe {
@@ -109,6 +116,7 @@ archive!(
     cdf_check,
     cdf_first,
     cdf_next,
+    walk_from_c,
     cdf_replay,
     cdf_build_first,
     cdf_build_next,
@@ -122,6 +130,7 @@ archive!(
     before_cdf_check,
     before_cdf_first,
     before_cdf_next,
+    before_walk_from_c,
     before_cdf_replay,
     before_cdf_build_first,
     before_cdf_build_next,

@@ -84,20 +84,6 @@ fn proved_check<A: Archive>(case: &Case, _: &mut Scratch) -> u64 {
     A::check(&case.stream, &mut answer) + answer[0]
 }
 
-/// The walk's fold, by a call for each unit.
-pub fn single_calls<A: Archive>(case: &Case, _: &mut Scratch) -> u64 {
-    let mut place = [0; 20];
-    let mut answer = [0; 8];
-    let mut fold: u64 = 0;
-    let mut number = A::first(&case.stream, &mut place, &mut answer);
-    while number == 0 {
-        let [_, id, action, start, own, end, ..] = answer;
-        fold = fold.rotate_left(5) ^ start ^ own << 16 ^ end << 32 ^ id << 48 ^ action << 56;
-        number = A::next(&case.stream, &mut place, &mut answer);
-    }
-    fold ^ number << 57 ^ answer[0] << 3
-}
-
 fn plain_replay<const CALLS: bool>(case: &Case, scratch: &mut Scratch) -> u64 {
     replay::<CALLS>(&case.stream, &case.calls, &mut scratch.log) as u64
 }
@@ -161,7 +147,7 @@ fn counted_listing<A: Archive>(case: &Case, scratch: &mut Scratch) -> u64 {
 fn version<A: Archive>(parts: &mut [Part; 5]) {
     let runs: [(&str, fn(&Case, &mut Scratch) -> u64); 5] = [
         ("cdf_check", proved_check::<A>),
-        ("cdf_first, cdf_next", single_calls::<A>),
+        ("cdf_first, cdf_next, from C", |case, _| A::walk(&case.stream)),
         ("cdf_replay", proved_replay::<A>),
         ("cdf_build_*", proved_build::<A>),
         ("cdf_listing", proved_listing::<A>),

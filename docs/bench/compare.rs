@@ -1,7 +1,7 @@
 //! That the proved code gives plain Rust's answers: nothing is timed before.
 
 use crate::archive::{proved_walk, Archive, Now, LAST};
-use crate::codes::{plain_build, proved_build, single_calls, Case, Scratch, LISTING_ROOM};
+use crate::codes::{plain_build, proved_build, Case, Scratch, LISTING_ROOM};
 use crate::plain::{check, fold_stop, fold_unit, replay, walk, Reader, INLINED, OUT_OF_LINE};
 use crate::plain_write::{listing, Builder};
 use crate::rules::{Stop, Unit};
@@ -169,11 +169,11 @@ fn assert_builder<A: Archive>(label: &str, case: &Case, random: &mut Random, met
     assert!(plain == proved, "the buffer on {label}");
 }
 
-fn assert_archive<A: Archive>(label: &str, case: &Case, expected: &Expected, scratch: &mut Scratch) {
+fn assert_archive<A: Archive>(label: &str, case: &Case, expected: &Expected) {
     let bytes = &case.stream;
     assert_check::<A>(label, bytes, expected);
     assert_reader::<A>(label, bytes, expected);
-    assert_eq!(single_calls::<A>(case, scratch), expected.fold(), "single calls on {label}");
+    assert_eq!(A::walk(bytes), expected.fold(), "{}single calls from C on {label}", A::NAME);
     assert_replay::<A>(label, case);
     assert_listing::<A>(label, bytes);
 }
@@ -194,9 +194,9 @@ pub fn assert_equal(sets: &[Set]) {
         let case = Case::new(bytes.to_vec(), &expected.units);
         assert_plain(label, bytes, &expected);
         assert_eq!(proved_walk(bytes), expected.fold(), "cdf_walk on {label}");
-        assert_archive::<Now>(label, &case, &expected, scratch);
+        assert_archive::<Now>(label, &case, &expected);
         #[cfg(before)]
-        assert_archive::<crate::archive::Before>(label, &case, &expected, scratch);
+        assert_archive::<crate::archive::Before>(label, &case, &expected);
         stops[expected.stop.number as usize] += 1;
         expected
     };
