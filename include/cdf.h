@@ -1,5 +1,5 @@
-/* The proved library for Common Data Format streams: the check, the reader and a run of the reader's calls, and by
- * cdf_build.h the builder and the listing.
+/* The proved library for Common Data Format streams: the check, why it refuses a stream, the reader and a run of the reader's
+ * calls, and by cdf_build.h the builder and the listing.
  *
  * Build target/libcdf.a with ./library, include this file and link the archive: it needs nothing else.
  *
@@ -40,6 +40,19 @@ extern "C" {
 
 /* The check of a whole stream. answer[0] is the number of units beside CDF_OK, and else the offset. */
 uint64_t cdf_check(const uint8_t *stream, size_t length, uint64_t answer[1]);
+
+/* Why the check refuses a stream: the units that are open where the refused unit stands, and the ids that could have stood there.
+ * 25 numbers are written at each call; those that are not used are zeros, and of an accepted stream all are. */
+#define CDF_EXPLAIN_NUMBERS 25
+#define CDF_EXPLAIN_OFFSET 0    /* where the rule is broken, as cdf_check tells it */
+#define CDF_EXPLAIN_COUNT 1     /* how many units are open there, 0 to 4 */
+#define CDF_EXPLAIN_UNITS 2     /* id and start of each of them, the root first: four times two numbers */
+#define CDF_EXPLAIN_CHOICES 10  /* how many ids the innermost of them admits there; where none is open, how many a root may have */
+#define CDF_EXPLAIN_IDS 11      /* these ids, rising: fourteen numbers */
+
+/* Returns the number of cdf_check. Beside CDF_INCOMPLETE the incomplete unit is the innermost open one, and the ids are those that it
+ * could still have taken; there is at least one. 0 and 3 to 10. */
+uint64_t cdf_explain(const uint8_t *stream, size_t length, uint64_t answer[25]);
 
 /* The reader keeps nothing between calls. All it knows is in a place, 20 numbers that the caller holds; copy it to come back
  * to it. Fill it by cdf_first; all zeros is the empty place. */

@@ -6,12 +6,16 @@ pub type Place = [u64; 20];
 pub const LAST: std::ops::Range<usize> = 14..19;
 /// Offset; id, action, start, own end and end of the unit; start and length of the part.
 pub type Answer = [u64; 8];
+/// Offset; how many units are open; id and start of up to four, the root first; how many ids the innermost admits; up to
+/// fourteen ids, rising. Zeros beyond, and all zeros for an accepted stream.
+pub type Explanation = [u64; 25];
 /// Bytes written; how many units are open; state and start of each.
 pub type BuildPlace = [u64; 10];
 
 pub trait Archive {
     const NAME: &'static str;
     fn check(stream: &[u8], answer: &mut [u64; 1]) -> u64;
+    fn explain(stream: &[u8], answer: &mut Explanation) -> u64;
     fn first(stream: &[u8], place: &mut Place, answer: &mut Answer) -> u64;
     fn next(stream: &[u8], place: &mut Place, answer: &mut Answer) -> u64;
     /// FIRST and NEXTs to the end, each called from C, folded.
@@ -24,10 +28,11 @@ pub trait Archive {
 }
 
 macro_rules! archive {
-    ($archive:ident, $name:literal, $check:ident, $first:ident, $next:ident, $walk:ident, $replay:ident,
-     $build_first:ident, $build_next:ident, $build_finish:ident, $listing:ident) => {
+    ($archive:ident, $name:literal, $check:ident, $explain:ident, $first:ident, $next:ident, $walk:ident,
+     $replay:ident, $build_first:ident, $build_next:ident, $build_finish:ident, $listing:ident) => {
         extern "C" {
             fn $check(stream: *const u8, length: usize, answer: &mut [u64; 1]) -> u64;
+            fn $explain(stream: *const u8, length: usize, answer: &mut Explanation) -> u64;
             fn $first(stream: *const u8, length: usize, place: &mut Place, answer: &mut Answer) -> u64;
             fn $next(stream: *const u8, length: usize, place: &mut Place, answer: &mut Answer) -> u64;
             fn $walk(stream: *const u8, length: usize) -> u64;
@@ -69,6 +74,10 @@ macro_rules! archive {
             #[inline(always)]
             fn check(stream: &[u8], answer: &mut [u64; 1]) -> u64 {
                 unsafe { $check(stream.as_ptr(), stream.len(), answer) }
+            }
+            #[inline(always)]
+            fn explain(stream: &[u8], answer: &mut Explanation) -> u64 {
+                unsafe { $explain(stream.as_ptr(), stream.len(), answer) }
             }
             #[inline(always)]
             fn first(stream: &[u8], place: &mut Place, answer: &mut Answer) -> u64 {
@@ -114,6 +123,7 @@ archive!(
     Now,
     "",
     cdf_check,
+    cdf_explain,
     cdf_first,
     cdf_next,
     walk_from_c,
@@ -128,6 +138,7 @@ archive!(
     Before,
     "before: ",
     before_cdf_check,
+    before_cdf_explain,
     before_cdf_first,
     before_cdf_next,
     before_walk_from_c,

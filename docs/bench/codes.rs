@@ -1,7 +1,7 @@
 //! The codes that are timed, by part: the first two of a part are plain Rust, inlined and out of line.
 
-use crate::archive::{proved_walk, Archive, Now};
-use crate::plain::{check, replay, walk, INLINED, OUT_OF_LINE};
+use crate::archive::{proved_walk, Archive, Explanation, Now};
+use crate::plain::{check, explain, replay, walk, INLINED, OUT_OF_LINE};
 use crate::plain_write::{listing, Builder};
 use crate::rules::{opens, Unit};
 
@@ -13,9 +13,10 @@ pub struct Request {
     end: usize,
 }
 
-/// A stream, the codes that replay it to its end, and the requests that build it.
+/// A stream, a refused copy, the codes that replay the stream to its end, and the requests that build it.
 pub struct Case {
     pub stream: Vec<u8>,
+    pub refused: Vec<u8>,
     pub calls: Vec<u8>,
     pub requests: Vec<Request>,
 }
@@ -24,13 +25,18 @@ impl Case {
     pub fn new(stream: Vec<u8>, units: &[Unit]) -> Case {
         let mut calls = vec![2; units.len() + 1];
         calls[0] = 1;
+        // No unit admits a nested EDMM stream: the fault is the last unit's, so all the others are read.
+        let mut refused = stream.clone();
+        if let Some(last) = units.last() {
+            refused[last.start + 5] = 1;
+        }
         let requests = units.iter().map(|unit| Request {
             id: unit.id,
             action: unit.action,
             data: unit.start + 6,
             end: if opens(unit.id) { unit.own } else { unit.end },
         });
-        Case { calls, requests: requests.collect(), stream }
+        Case { refused, calls, requests: requests.collect(), stream }
     }
 
     #[inline(always)]
@@ -44,6 +50,7 @@ pub const LISTING_ROOM: usize = 207_527;
 
 /// What the codes write into.
 pub struct Scratch {
+    pub explanation: Explanation,
     pub log: Vec<u64>,
     pub buffer: Vec<u8>,
     pub text: Vec<u8>,
@@ -53,6 +60,7 @@ pub struct Scratch {
 impl Scratch {
     pub fn new() -> Scratch {
         Scratch {
+            explanation: [0; 25],
             log: vec![0; 9 * 11_000],
             buffer: vec![0; 65_535],
             text: vec![0; LISTING_ROOM],
@@ -70,6 +78,8 @@ pub struct Code {
 pub struct Part {
     pub name: &'static str,
     pub codes: Vec<Code>,
+    /// Pairs of codes: the first one's time is also given by that of the second, which does other work than the part's.
+    pub by: Vec<(usize, usize)>,
 }
 
 fn plain_check<const CALLS: bool>(case: &Case, _: &mut Scratch) -> u64 {
@@ -82,6 +92,19 @@ fn plain_check<const CALLS: bool>(case: &Case, _: &mut Scratch) -> u64 {
 fn proved_check<A: Archive>(case: &Case, _: &mut Scratch) -> u64 {
     let mut answer = [0];
     A::check(&case.stream, &mut answer) + answer[0]
+}
+
+fn plain_explain<const CALLS: bool>(case: &Case, scratch: &mut Scratch) -> u64 {
+    explain::<CALLS>(&case.refused, &mut scratch.explanation)
+}
+
+fn proved_explain<A: Archive>(case: &Case, scratch: &mut Scratch) -> u64 {
+    A::explain(&case.refused, &mut scratch.explanation)
+}
+
+fn refused_check<A: Archive>(case: &Case, _: &mut Scratch) -> u64 {
+    let mut answer = [0];
+    A::check(&case.refused, &mut answer) + answer[0]
 }
 
 fn plain_replay<const CALLS: bool>(case: &Case, scratch: &mut Scratch) -> u64 {
@@ -144,9 +167,10 @@ fn counted_listing<A: Archive>(case: &Case, scratch: &mut Scratch) -> u64 {
     A::listing(&case.stream, &mut scratch.text[..1], &mut answer) + answer[0]
 }
 
-fn version<A: Archive>(parts: &mut [Part; 5]) {
-    let runs: [(&str, fn(&Case, &mut Scratch) -> u64); 5] = [
+fn version<A: Archive>(parts: &mut [Part; 6]) {
+    let runs: [(&str, fn(&Case, &mut Scratch) -> u64); 6] = [
         ("cdf_check", proved_check::<A>),
+        ("cdf_explain", proved_explain::<A>),
         ("cdf_first, cdf_next, from C", |case, _| A::walk(&case.stream)),
         ("cdf_replay", proved_replay::<A>),
         ("cdf_build_*", proved_build::<A>),
@@ -155,26 +179,31 @@ fn version<A: Archive>(parts: &mut [Part; 5]) {
     for (part, (name, run)) in parts.iter_mut().zip(runs) {
         part.codes.push(Code { name: format!("{}{name}", A::NAME), run });
     }
-    parts[4].codes.push(Code { name: format!("{}cdf_listing, no room", A::NAME), run: counted_listing::<A> });
+    let codes = &mut parts[1].codes;
+    codes.push(Code { name: format!("{}cdf_check, refused", A::NAME), run: refused_check::<A> });
+    let by = (codes.len() - 2, codes.len() - 1);
+    parts[1].by.push(by);
+    parts[5].codes.push(Code { name: format!("{}cdf_listing, no room", A::NAME), run: counted_listing::<A> });
 }
 
-pub fn parts() -> [Part; 5] {
+pub fn parts() -> [Part; 6] {
     fn part(
         name: &'static str,
         inlined: fn(&Case, &mut Scratch) -> u64,
         out_of_line: fn(&Case, &mut Scratch) -> u64,
     ) -> Part {
         let code = |form, run| Code { name: format!("{name}: plain, {form}"), run };
-        Part { name, codes: vec![code("inlined", inlined), code("out of line", out_of_line)] }
+        Part { name, codes: vec![code("inlined", inlined), code("out of line", out_of_line)], by: Vec::new() }
     }
     let mut parts = [
         part("check", plain_check::<INLINED>, plain_check::<OUT_OF_LINE>),
+        part("explain", plain_explain::<INLINED>, plain_explain::<OUT_OF_LINE>),
         part("reader", |case, _| walk::<INLINED>(&case.stream), |case, _| walk::<OUT_OF_LINE>(&case.stream)),
         part("replay", plain_replay::<INLINED>, plain_replay::<OUT_OF_LINE>),
         part("builder", plain_build::<INLINED>, plain_build::<OUT_OF_LINE>),
         part("listing", plain_listing::<INLINED>, plain_listing::<OUT_OF_LINE>),
     ];
-    parts[1].codes.push(Code { name: "cdf_walk".to_string(), run: |case, _| proved_walk(&case.stream) });
+    parts[2].codes.push(Code { name: "cdf_walk".to_string(), run: |case, _| proved_walk(&case.stream) });
     version::<Now>(&mut parts);
     #[cfg(before)]
     version::<crate::archive::Before>(&mut parts);

@@ -1,16 +1,17 @@
 //! That the proved code gives plain Rust's answers: nothing is timed before.
 
-use crate::archive::{proved_walk, Archive, Now, LAST};
+use crate::archive::{proved_walk, Archive, Explanation, Now, LAST};
 use crate::codes::{plain_build, proved_build, Case, Scratch, LISTING_ROOM};
-use crate::plain::{check, fold_stop, fold_unit, replay, walk, Reader, INLINED, OUT_OF_LINE};
+use crate::plain::{check, explain, fold_stop, fold_unit, replay, walk, Reader, INLINED, OUT_OF_LINE};
 use crate::plain_write::{listing, Builder};
 use crate::rules::{Stop, Unit};
-use crate::streams::{damaged, samples, Random, Set};
+use crate::streams::{damaged, samples, Random, Sample, Set};
 
-/// What plain Rust says of some bytes: the units handed out, and what comes after the last.
+/// What plain Rust says of some bytes: the units handed out, what comes after the last, and why it is a refusal.
 struct Expected {
     units: Vec<Unit>,
     stop: Stop,
+    explanation: Explanation,
 }
 
 impl Expected {
@@ -41,14 +42,32 @@ fn read(bytes: &[u8]) -> Expected {
             }
         }
     };
-    Expected { units, stop }
+    let mut explanation = [u64::MAX; 25];
+    explain::<INLINED>(bytes, &mut explanation);
+    Expected { units, stop, explanation }
 }
 
 /// A stream that is to be accepted, as a case to time.
 pub fn case(stream: Vec<u8>) -> Case {
-    let Expected { units, stop } = read(&stream);
+    let Expected { units, stop, .. } = read(&stream);
     assert_eq!(stop.number, 1, "a stream to be timed is accepted");
-    Case::new(stream, &units)
+    let case = Case::new(stream, &units);
+    let refused = read(&case.refused);
+    let last = units.last().expect("a stream has a root").start;
+    assert_eq!(refused.stop, Stop { number: 7, offset: last }, "the copy is refused at its last unit");
+    case
+}
+
+/// What request a of document 02 says of a sample.
+fn explanation(sample: &Sample) -> Explanation {
+    let mut numbers = [0; 25];
+    let offset = if sample.answer.0 == 0 { 0 } else { sample.answer.1 };
+    (numbers[0], numbers[1], numbers[10]) = (offset, sample.open.len() as u64, sample.ids.len() as u64);
+    for (pair, (id, start)) in numbers[2..10].chunks_exact_mut(2).zip(sample.open) {
+        pair.copy_from_slice(&[*id, *start]);
+    }
+    numbers[11..11 + sample.ids.len()].copy_from_slice(sample.ids);
+    numbers
 }
 
 /// The two forms of the plain code agree.
@@ -60,6 +79,11 @@ fn assert_plain(label: &str, bytes: &[u8], expected: &Expected) {
         };
         assert_eq!(answer, expected.check(), "plain check on {label}");
     }
+    for explain in [explain::<INLINED>, explain::<OUT_OF_LINE>] {
+        let mut answer = [u64::MAX; 25];
+        assert_eq!(explain(bytes, &mut answer), expected.check().0, "plain number on {label}");
+        assert_eq!(answer, expected.explanation, "plain explanation on {label}");
+    }
     assert_eq!(walk::<INLINED>(bytes), expected.fold(), "plain walk on {label}");
     assert_eq!(walk::<OUT_OF_LINE>(bytes), expected.fold(), "plain walk, out of line, on {label}");
 }
@@ -68,6 +92,12 @@ fn assert_check<A: Archive>(label: &str, bytes: &[u8], expected: &Expected) {
     let mut answer = [u64::MAX];
     let number = A::check(bytes, &mut answer);
     assert_eq!((number, answer[0]), expected.check(), "{}cdf_check on {label}", A::NAME);
+}
+
+fn assert_explain<A: Archive>(label: &str, bytes: &[u8], expected: &Expected) {
+    let mut answer = [u64::MAX; 25];
+    assert_eq!(A::explain(bytes, &mut answer), expected.check().0, "{}cdf_explain's number on {label}", A::NAME);
+    assert_eq!(answer, expected.explanation, "{}cdf_explain on {label}", A::NAME);
 }
 
 fn assert_reader<A: Archive>(label: &str, bytes: &[u8], expected: &Expected) {
@@ -172,6 +202,7 @@ fn assert_builder<A: Archive>(label: &str, case: &Case, random: &mut Random, met
 fn assert_archive<A: Archive>(label: &str, case: &Case, expected: &Expected) {
     let bytes = &case.stream;
     assert_check::<A>(label, bytes, expected);
+    assert_explain::<A>(label, bytes, expected);
     assert_reader::<A>(label, bytes, expected);
     assert_eq!(A::walk(bytes), expected.fold(), "{}single calls from C on {label}", A::NAME);
     assert_replay::<A>(label, case);
@@ -188,7 +219,7 @@ fn list(met: &[usize], numbers: &[usize]) -> String {
 pub fn assert_equal(sets: &[Set]) {
     const DAMAGED: usize = 150;
     let scratch = &mut Scratch::new();
-    let (mut stops, mut built) = ([0; 15], [0; 15]);
+    let (mut stops, mut open, mut built) = ([0; 15], [0; 5], [0; 15]);
     let mut compare = |label: &str, bytes: &[u8]| {
         let expected = read(bytes);
         let case = Case::new(bytes.to_vec(), &expected.units);
@@ -198,17 +229,24 @@ pub fn assert_equal(sets: &[Set]) {
         #[cfg(before)]
         assert_archive::<crate::archive::Before>(label, &case, &expected);
         stops[expected.stop.number as usize] += 1;
+        if expected.stop.number != 1 {
+            open[expected.explanation[1] as usize] += 1;
+        }
         expected
     };
     for sample in samples() {
         let expected = compare(sample.name, &sample.bytes);
         assert_eq!(expected.check(), sample.answer, "document 01 on {}", sample.name);
+        assert_eq!(expected.explanation, explanation(&sample), "request a on {}", sample.name);
     }
     for set in sets {
         let random = &mut Random::new(set.size as u64);
         let label = |at: usize| format!("{} of {} bytes, {at}", set.name, set.size);
         let read = set.cases.iter().enumerate().map(|(at, case)| compare(&label(at), &case.stream));
         let read: Vec<Expected> = read.collect();
+        for (at, case) in set.cases.iter().enumerate() {
+            compare(&format!("{}, refused", label(at)), &case.refused);
+        }
         for round in 0..DAMAGED {
             let at = round % set.cases.len();
             let bytes = damaged(&set.cases[at].stream, &read[at].units, random);
@@ -226,7 +264,9 @@ pub fn assert_equal(sets: &[Set]) {
             assert_built::<crate::archive::Before>(set.name, case, scratch);
         }
     }
-    println!("equal answers on K1 to K12, the streams of {} sets and {DAMAGED} damaged copies of each set", sets.len());
+    println!("equal answers on K1 to K12, the streams of {} sets, these refused at their last unit, and", sets.len());
+    println!("{DAMAGED} damaged copies of each set");
     println!("  how often each number ended them: {}", list(&stops, &[1, 3, 4, 5, 6, 7, 8, 9, 10]));
+    println!("  how many units were open at a refusal, and how often: {}", list(&open, &[0, 1, 2, 3, 4]));
     println!("  the builder's numbers: {}", list(&built, &[0, 6, 7, 8, 9, 10, 12, 13]));
 }

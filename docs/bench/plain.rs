@@ -1,7 +1,7 @@
-//! A plain check, reader and replay: what the proved ones are measured against. Their state is mutable and their own, so
-//! no call tests it again. The proved NEXT must: its place is the caller's.
+//! A plain check, reader, explanation and replay: what the proved ones are measured against. Their state is mutable and
+//! their own, so no call tests it again. The proved NEXT must: its place is the caller's.
 
-use crate::rules::{action_allowed, opens, own_data, prefix, root, Prefix, Progress, Stop, Unit};
+use crate::rules::{action_allowed, opens, own_data, prefix, root, root_kind, Prefix, Progress, Stop, Unit};
 
 struct Open {
     progress: Progress,
@@ -140,6 +140,38 @@ pub fn walk<const CALLS: bool>(stream: &[u8]) -> u64 {
             Err(stop) => return fold_stop(fold, &stop),
         }
     }
+}
+
+/// Why a stream is refused: the check's number, and into `answer`, in the order of `cdf_explain`, its offset, the units
+/// open there and the ids that the innermost admits.
+#[inline(always)]
+pub fn explain<const CALLS: bool>(stream: &[u8], answer: &mut [u64; 25]) -> u64 {
+    *answer = [0; 25];
+    let (stop, open) = match Reader::first(stream) {
+        Err(stop) => (stop, Vec::new()),
+        Ok((mut reader, _)) => loop {
+            if let Err(stop) = if CALLS { reader.next_out_of_line() } else { reader.next() } {
+                break (stop, reader.open);
+            }
+        },
+    };
+    if stop.number == 1 {
+        return 0;
+    }
+    answer[0] = stop.offset as u64;
+    answer[1] = open.len() as u64;
+    for (pair, open) in answer[2..10].chunks_exact_mut(2).zip(&open) {
+        pair.copy_from_slice(&[open.progress.id() as u64, open.start as u64]);
+    }
+    let mut ids = 0;
+    for id in 1..=14 {
+        if open.last().map_or(root_kind(id), |open| open.progress.admits(id)) {
+            answer[11 + ids] = id as u64;
+            ids += 1;
+        }
+    }
+    answer[10] = ids as u64;
+    stop.number as u64
 }
 
 fn entry(answer: &Result<Unit, Stop>) -> [u64; 9] {

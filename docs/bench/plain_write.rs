@@ -2,7 +2,7 @@
 //! listing's text grows in a `Vec` that has room for any, so no line asks whether it fits.
 
 use crate::plain::{check, Reader, OUT_OF_LINE};
-use crate::rules::{action_allowed, opens, own_data, Progress, Unit};
+use crate::rules::{action_allowed, opens, own_data, root_kind, Progress, Unit};
 
 const LIMIT: usize = 65_535;
 const PREFIX: usize = 6;
@@ -24,7 +24,7 @@ impl<'a> Builder<'a> {
         if !(1..=14).contains(&root) {
             return Err(6);
         }
-        if !matches!(root, 1 | 4 | 13) {
+        if !root_kind(root) {
             return Err(7);
         }
         if buffer.len() < PREFIX {

@@ -1,4 +1,4 @@
-//! The rules of document 01, first edition, in plain Rust: what the plain check, reader, builder and listing share.
+//! The rules of document 01, first edition, in plain Rust: what the plain codes share.
 
 /// A unit as it is handed out. `own` is where its name or its numbers end, or its prefix if it has none of these.
 #[derive(Clone, Copy, Debug, PartialEq, Eq)]
@@ -30,6 +30,10 @@ impl Progress {
         Progress { id, nested: 0, last: 0 }
     }
 
+    pub fn id(&self) -> u8 {
+        self.id
+    }
+
     pub fn add(&mut self, id: u8) {
         self.nested += 1;
         self.last = id;
@@ -59,6 +63,10 @@ impl Progress {
             _ => self.nested > 0,
         }
     }
+}
+
+pub fn root_kind(id: u8) -> bool {
+    matches!(id, 1 | 4 | 13)
 }
 
 pub fn opens(id: u8) -> bool {
@@ -134,7 +142,7 @@ pub fn prefix(rest: &[u8], root: bool) -> Result<Prefix, u8> {
 pub fn root(stream: &[u8]) -> Result<Unit, Stop> {
     let stop = |number| Stop { number, offset: 0 };
     let Prefix { length, action, id } = prefix(stream, true).map_err(stop)?;
-    if !matches!(id, 1 | 4 | 13) {
+    if !root_kind(id) {
         return Err(stop(7));
     }
     if !action_allowed(id, action) {

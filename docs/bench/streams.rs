@@ -177,11 +177,14 @@ fn set_length(bytes: &mut [u8], start: usize, length: usize) {
     bytes[start + 2..start + 4].copy_from_slice(&(length as u16).to_be_bytes());
 }
 
-/// A sample of document 01, and the check's answer: 0 with the count of units, or the refusal and its offset.
+/// A sample of document 01, and the check's answer: 0 with the count of units, or the refusal and its offset. Of a refused
+/// one, by request a of document 02, id and start of the units open there and the ids that may stand there.
 pub struct Sample {
     pub name: &'static str,
     pub bytes: Vec<u8>,
     pub answer: (u64, u64),
+    pub open: &'static [(u64, u64)],
+    pub ids: &'static [u64],
 }
 
 pub fn samples() -> [Sample; 12] {
@@ -189,24 +192,25 @@ pub fn samples() -> [Sample; 12] {
     const K2: &[u8] = b"\xCD\xF1\x00\x2E\x00\x04\xCD\xF1\x00\x28\x01\x05\x06PERSON\
         \xCD\xF1\x00\x0A\x00\x06\x00\x00\x00\x01\xCD\xF1\x00\x11\x01\x08\x07SURNAME\xC3\x85s";
     const K12: &[u8] = b"\xCD\xF1\x00\x12\x00\x01\xCD\xF1\x00\x0C\x00\x02\x05MERGE";
-    let sample = |name, bytes: &[u8], answer| Sample { name, bytes: bytes.to_vec(), answer };
-    let changed = |name, of: &[u8], place: usize, byte: u8, answer| {
+    const ROOTS: &[u64] = &[1, 4, 13];
+    let sample = |name, bytes: &[u8], answer, open, ids| Sample { name, bytes: bytes.to_vec(), answer, open, ids };
+    let changed = |name, of: &[u8], place: usize, byte: u8, answer, open, ids| {
         let mut bytes = of.to_vec();
         bytes[place] = byte;
-        Sample { name, bytes, answer }
+        Sample { name, bytes, answer, open, ids }
     };
     [
-        sample("K1", K1, (0, 2)),
-        sample("K2", K2, (0, 4)),
-        sample("K3", b"", (3, 0)),
-        sample("K4", b"\xCD\xF1\x00\x06\x00\x0D", (10, 0)),
-        changed("K5", K1, 3, 0x0F, (5, 0)),
-        changed("K6", K1, 9, 0x0B, (5, 6)),
-        changed("K7", K1, 9, 0x09, (3, 15)),
-        changed("K8", K2, 9, 0x17, (7, 29)),
-        changed("K9", K2, 1, 0xF0, (4, 0)),
-        changed("K10", K2, 33, 0x00, (8, 29)),
-        changed("K11", K2, 13, 0x31, (9, 6)),
-        sample("K12", K12, (0, 2)),
+        sample("K1", K1, (0, 2), &[], &[]),
+        sample("K2", K2, (0, 4), &[], &[]),
+        sample("K3", b"", (3, 0), &[], ROOTS),
+        sample("K4", b"\xCD\xF1\x00\x06\x00\x0D", (10, 0), &[(13, 0)], &[14]),
+        changed("K5", K1, 3, 0x0F, (5, 0), &[], ROOTS),
+        changed("K6", K1, 9, 0x0B, (5, 6), &[(13, 0)], &[14]),
+        changed("K7", K1, 9, 0x09, (3, 15), &[(13, 0)], &[14]),
+        changed("K8", K2, 9, 0x17, (7, 29), &[(4, 0)], &[5, 9, 10]),
+        changed("K9", K2, 1, 0xF0, (4, 0), &[], ROOTS),
+        changed("K10", K2, 33, 0x00, (8, 29), &[(4, 0), (5, 6)], &[6, 7, 8]),
+        changed("K11", K2, 13, 0x31, (9, 6), &[(4, 0)], &[5, 9, 10]),
+        sample("K12", K12, (0, 2), &[], &[]),
     ]
 }

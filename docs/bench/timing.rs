@@ -58,7 +58,7 @@ fn heading(columns: &[String]) -> String {
 /// The sets are those of all kinds, by size: `sizes` one after the other, each with all kinds in one order.
 pub fn tables(parts: &[Part], sets: &[Set], sizes: &[usize], rounds: usize) {
     let kinds = sets.len() / sizes.len();
-    let (mut to_plain, mut costs) = (Vec::new(), Vec::new());
+    let (mut to_plain, mut by, mut costs) = (Vec::new(), Vec::new(), Vec::new());
     for part in parts {
         for kind in 0..kinds {
             let of_kind: Vec<&Set> = sets.iter().skip(kind).step_by(kinds).collect();
@@ -69,7 +69,11 @@ pub fn tables(parts: &[Part], sets: &[Set], sizes: &[usize], rounds: usize) {
                 let each = |cell: &dyn Fn(&Vec<Vec<f64>>) -> String| times.iter().map(cell).collect::<Vec<_>>();
                 let cost = each(&|times| format!("{:.2}", best(&times[at])));
                 let flat = each(&|times| format!("{:.2}", best(&times[at]) / longest));
-                if at >= PLAIN {
+                for (_, other) in part.by.iter().filter(|(code, _)| *code == at) {
+                    let names = [format!("{} by {}", code.name, part.codes[*other].name), names[1].clone()];
+                    by.push(row(&[&names[..], &each(&|times| ratios(&times[at], &times[*other]))].concat()));
+                }
+                if at >= PLAIN && part.by.iter().all(|(_, other)| *other != at) {
                     let inlined = each(&|times| ratios(&times[at], &times[0]));
                     let out_of_line = each(&|times| ratios(&times[at], &times[1]));
                     to_plain.push(row(&[&names[..], &inlined, &out_of_line, &flat[..sizes.len() - 1]].concat()));
@@ -87,6 +91,10 @@ pub fn tables(parts: &[Part], sets: &[Set], sizes: &[usize], rounds: usize) {
         heading(&[by_size("inlined, "), by_size("out of line, "), flat[..sizes.len() - 1].to_vec()].concat())
     );
     println!("{}", to_plain.join("\n"));
+    if !by.is_empty() {
+        println!("\nby another code of the same archive on the same streams, ratios as above\n");
+        println!("{}\n{}", heading(&by_size("")), by.join("\n"));
+    }
     println!("\nof all codes: best times in nanoseconds a byte, and as a ratio to that of the longest streams\n");
     println!("{}\n{}", heading(&[by_size("ns, "), flat].concat()), costs.join("\n"));
 }

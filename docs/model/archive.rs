@@ -1,6 +1,6 @@
 //! The functions of the archive, called as C calls them.
 
-use cdf_model::numbers::{BuilderNumbers, ReaderNumbers};
+use cdf_model::numbers::{BuilderNumbers, ExplanationNumbers, ReaderNumbers};
 use cdf_model::reader::Call;
 
 type ReaderCall = unsafe extern "C" fn(*const u8, usize, *mut u64, *mut u64) -> u64;
@@ -23,6 +23,7 @@ extern "C" {
         answer: *mut u64,
     ) -> u64;
     fn cdf_listing(stream: *const u8, n: usize, text: *mut u8, ntext: usize, answer: *mut u64) -> u64;
+    fn cdf_explain(stream: *const u8, n: usize, answer: *mut u64) -> u64;
     fn cdf_build_first(buffer: *mut u8, n: usize, root: u64, place: *mut u64) -> u64;
     fn cdf_build_next(
         buffer: *mut u8,
@@ -116,6 +117,12 @@ pub fn replay(stream: &[u8], calls: &[u8], log: &mut [u64]) -> (u64, u64) {
 pub fn listing(stream: &[u8], text: &mut [u8]) -> (u64, u64) {
     let (ntext, text) = (text.len(), pointer_mut(text));
     answered(|answer| unsafe { cdf_listing(pointer(stream), stream.len(), text, ntext, answer) })
+}
+
+pub fn explain(stream: &[u8]) -> (u64, ExplanationNumbers) {
+    let mut answer = [UNWRITTEN; 25];
+    let number = guarded(&mut answer, |answer| unsafe { cdf_explain(pointer(stream), stream.len(), answer) });
+    (number, answer)
 }
 
 pub fn build_first(buffer: &mut [u8], root: u64, place: &mut BuilderNumbers) -> u64 {

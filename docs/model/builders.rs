@@ -1,7 +1,7 @@
 //! Compares the builder: runs from a start, and calls on hand-made places. After each call the number, the place and the
 //! whole buffer are compared.
 
-use crate::readers::hex;
+use crate::readers::{compare_explain, hex};
 use crate::tally::{Function, Tally};
 use crate::{archive, consistency, places};
 use cdf_model::builder::{self, Place, Request};
@@ -168,6 +168,8 @@ pub fn compare(tally: &mut Tally, random: &mut Random) {
                 let group = group(&before, n, random);
                 if n < 1_000 {
                     consistency::added(tally, &buffers.model[..n], &before, &group);
+                    compare_explain(tally, &group);
+                    tally.count("explanations of groups to be added");
                 }
                 if buffers.add_stream(tally, &mut place, &group) == 0 {
                     asked.extend(builder::requests(&group));
@@ -187,6 +189,10 @@ pub fn compare(tally: &mut Tally, random: &mut Random) {
         if started && n < 1_000 {
             let place = builder_place(&place);
             consistency::built(tally, &buffers.model[..n], &place, &asked);
+            if place != before {
+                compare_explain(tally, &buffers.archive[..place.written as usize]);
+                tally.count("explanations of buffers as they are built");
+            }
         }
     }
     tally.count("builder runs");

@@ -3,11 +3,14 @@
 use crate::readers::hex;
 use crate::tally::Tally;
 use cdf_model::builder::{self, requests, Request};
+use cdf_model::cases;
 use cdf_model::check::check;
+use cdf_model::explain::{explain, Explanation};
 use cdf_model::numbers::CODES;
 use cdf_model::plain::Plain;
 use cdf_model::reader::{call, Call, Place, Reply};
-use cdf_model::streams::Tree;
+use cdf_model::rules::{complete, Refusal, Unit, LIMIT};
+use cdf_model::streams::{gone_on, Tree};
 use cdf_model::units::list;
 
 fn expect(tally: &Tally, holds: bool, what: &str, stream: &[u8]) {
@@ -36,12 +39,50 @@ pub fn stream(tally: &mut Tally, stream: &[u8], tree: Option<&Tree>) {
     let owed = if listed.units.is_empty() { (11, 0) } else { end };
     let again = call(Call::Next, stream, &reply.place);
     expect(tally, (again.number, again.offset) == owed, "NEXT after the end", stream);
+    explained(tally, stream, &reply.place);
     if let Some(tree) = tree {
         let same = answer.is_ok() && tree.requests() == requests(stream);
         expect(tally, same, "a tree of the grammar and its reading", stream);
         expect(tally, rebuilt(&tree.requests()).as_deref() == Some(stream), "building a tree", stream);
     }
     tally.count("streams on which the model agrees with itself");
+}
+
+/// What is told of a stream, against the check, and against the place at which the reader met the fault.
+fn explained(tally: &mut Tally, stream: &[u8], place: &Place) {
+    let told = explain(stream);
+    let Err(refusal) = check(stream) else {
+        return expect(tally, told == Explanation::default(), "nothing is told of an accepted stream", stream);
+    };
+    let same = (told.number, told.offset) == (refusal.number, refusal.offset);
+    expect(tally, same, "explanation and check", stream);
+    let inside = |pair: &[Unit]| pair[0].own <= pair[1].start && pair[1].end <= pair[0].end;
+    expect(tally, told.open.windows(2).all(inside), "each open unit in the one before", stream);
+    expect(tally, told.number != 10 || !told.ids.is_empty(), "what an incomplete unit takes", stream);
+
+    let mut left = place.open.clone();
+    while left.pop_if(|unit| unit.end == place.position && complete(unit.id, unit.had)).is_some() {}
+    let open = told.open.iter().map(|unit| (unit.id, unit.start, unit.end));
+    let same = open.eq(left.iter().map(|unit| (unit.id, unit.start, unit.end)));
+    expect(tally, same, "open units and the reader's place", stream);
+    tally.closed(place.open.len() - left.len());
+
+    // A small unit of each id, where the refused one stands or after all that the incomplete one has had, and nothing after
+    // it. If the id was told the check passes it, though a unit around it may still be incomplete; else it gets 7.
+    let at = match told.open.last() {
+        Some(incomplete) if told.number == 10 => incomplete.end,
+        _ => told.offset,
+    };
+    for id in 1..=14 {
+        let tried = gone_on(&stream[..at as usize], &told.open, &cases::complete(id as u8));
+        let holds = match (check(&tried), told.ids.contains(&id)) {
+            _ if tried.len() as u64 > LIMIT => continue,
+            (Ok(_), listed) => listed,
+            (Err(refusal), true) => refusal.number == 10 && told.open.iter().any(|unit| unit.start == refusal.offset),
+            (Err(refusal), false) => refusal == Refusal { number: 7, offset: at },
+        };
+        expect(tally, holds, "ids and the check of such units", stream);
+    }
 }
 
 /// On an accepted stream the reader with places answers a list of calls, begun by a start, as the plain reader does; parts

@@ -1,4 +1,5 @@
-//! A second implementation of document 01 in plain Rust, written from the document and not from the proved code.
+//! A second implementation of document 01, and of request a) of 02, in plain Rust, written from the documents and not from
+//! the proved code.
 
 pub mod build_cases;
 mod build_places;
@@ -6,6 +7,7 @@ pub mod build_run;
 pub mod builder;
 pub mod cases;
 pub mod check;
+pub mod explain;
 mod named;
 pub mod numbers;
 pub mod plain;

@@ -11,9 +11,10 @@ mod tally;
 
 use cdf_model::cases::cases;
 use cdf_model::check::check;
+use cdf_model::explain::explain;
 use cdf_model::random::Random;
-use cdf_model::samples::samples;
-use cdf_model::streams::{damage_bytes, damage_tree, filled, grow, mend_root, noise, Tree};
+use cdf_model::samples::{samples, TOLD};
+use cdf_model::streams::{damage_bytes, damage_tree, filled, grow, mend_root, noise, redirected, Tree};
 use std::time::{Duration, Instant};
 use tally::Tally;
 
@@ -31,7 +32,7 @@ fn stream(random: &mut Random) -> (&'static str, Vec<u8>, Option<Tree>) {
         _ => random.pick(&[0, 12, 30, 60, 120]),
     };
     let mut tree = grow(random.pick(&[1, 1, 4, 13]), asked, random);
-    match random.below(20) {
+    match random.below(22) {
         0..=5 => ("streams: grown", tree.bytes(), Some(tree)),
         6..=10 => {
             for _ in 0..random.between(1, 2) {
@@ -54,7 +55,8 @@ fn stream(random: &mut Random) -> (&'static str, Vec<u8>, Option<Tree>) {
             }
             ("streams: random bytes", bytes, None)
         }
-        _ => ("streams: random bytes and prefixes", noise(random), None),
+        18 | 19 => ("streams: random bytes and prefixes", noise(random), None),
+        _ => ("streams: grown and redirected", redirected(&tree.bytes(), random), None),
     }
 }
 
@@ -90,8 +92,16 @@ fn fixed(tally: &mut Tally) {
     for (label, bytes, owed) in samples() {
         assert_eq!(check(&bytes), owed, "{label}");
     }
-    for (_, bytes) in cases() {
-        readers::compare_check(tally, &bytes);
+    let cases = cases();
+    for (label, open, ids) in TOLD {
+        let (_, bytes) = cases.iter().find(|case| case.0 == label).expect(label);
+        let told = explain(bytes);
+        let units: Vec<(u64, u64)> = told.open.iter().map(|unit| (unit.id, unit.start)).collect();
+        assert_eq!((&units[..], &told.ids[..]), (open, ids), "{label}");
+    }
+    for (_, bytes) in &cases {
+        readers::compare_check(tally, bytes);
+        readers::compare_explain(tally, bytes);
         tally.count("streams: the stored cases of the check");
     }
     builders::largest(tally);

@@ -1,5 +1,7 @@
 //! The model as a program of its own, without an archive.
 //!   model check FILE   the check's number, and the count of units or the offset
+//!   model explain FILE why it is refused, in numbers: the check's number and offset; how many units are open, id and start
+//!                      of each; how many ids may stand there, and these
 //!   model list FILE    what the listing program writes
 //!   model inputs       the stored cases of the check, as cdf_check_cases reads them
 //!   model answers      the check's answer to each
@@ -9,6 +11,7 @@
 
 use cdf_model::build_cases::build_cases;
 use cdf_model::build_run::BuildCase;
+use cdf_model::explain::{explain, Explanation};
 use cdf_model::{cases, check, samples};
 use std::fs::File;
 use std::io::{self, Read, Write};
@@ -18,6 +21,15 @@ fn answer(stream: &[u8]) -> String {
         Ok(units) => format!("0 {units}"),
         Err(refusal) => format!("{} {}", refusal.number, refusal.offset),
     }
+}
+
+fn told(stream: &[u8]) -> String {
+    let Explanation { number, offset, open, ids } = explain(stream);
+    let mut numbers = vec![number, offset, open.len() as u64];
+    numbers.extend(open.iter().flat_map(|unit| [unit.id, unit.start]));
+    numbers.push(ids.len() as u64);
+    numbers.extend(ids);
+    numbers.iter().map(u64::to_string).collect::<Vec<_>>().join(" ")
 }
 
 /// The first 65,536 bytes: one more than a stream may have.
@@ -35,13 +47,16 @@ fn main() -> io::Result<()> {
     let words: Vec<&str> = words.iter().map(String::as_str).collect();
     let text = match words[..] {
         ["check", path] => answer(&read(path)?) + "\n",
+        ["explain", path] => told(&read(path)?) + "\n",
         ["list", path] => check::listing(&read(path)?),
         ["inputs"] => lines(|bytes| ":".to_string() + &cases::written(bytes)),
         ["answers"] => lines(|bytes| " ".to_string() + &answer(bytes)),
         ["build-inputs"] => build_cases().iter().map(BuildCase::input).collect(),
         ["build-answers"] => build_cases().iter().map(BuildCase::answer).collect(),
         _ => {
-            eprintln!("usage: model check FILE | list FILE | inputs | answers | build-inputs | build-answers");
+            eprintln!(
+                "usage: model check FILE | explain FILE | list FILE | inputs | answers | build-inputs | build-answers"
+            );
             std::process::exit(2);
         }
     };

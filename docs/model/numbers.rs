@@ -2,11 +2,13 @@
 
 use crate::builder;
 use crate::check::listing;
+use crate::explain::Explanation;
 use crate::reader::{self, call, Call, Open, Place, Reply};
 use crate::rules::{Had, Unit};
 
 pub type ReaderNumbers = [u64; 20];
 pub type BuilderNumbers = [u64; 10];
+pub type ExplanationNumbers = [u64; 25];
 
 /// The states 1 to 28: an id, and what such a unit has had.
 const STATES: [(u64, Had); 28] = [
@@ -126,6 +128,19 @@ pub fn answer(reply: &Reply) -> [u64; 8] {
     let [id, action, start, own, end] = of_unit(reply.unit);
     let (part, length) = reply.part;
     [reply.offset, id, action, start, own, end, part, length]
+}
+
+/// Offset; how many units are open, and id and start of four; how many ids, and fourteen. Entries that are not used are 0.
+pub fn explanation(told: &Explanation) -> ExplanationNumbers {
+    let mut numbers = [0; 25];
+    numbers[0] = told.offset;
+    numbers[1] = told.open.len() as u64;
+    for (unit, entry) in told.open.iter().zip(numbers[2..10].chunks_exact_mut(2)) {
+        entry.copy_from_slice(&[unit.id, unit.start]);
+    }
+    numbers[10] = told.ids.len() as u64;
+    numbers[11..11 + told.ids.len()].copy_from_slice(&told.ids);
+    numbers
 }
 
 /// The calls that a list of codes may name, from code 1 on.

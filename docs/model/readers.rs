@@ -1,8 +1,10 @@
-//! Compares check, listing and reader: every call with the model's answer and place, whole runs, and hand-made places.
+//! Compares check, explanation, listing and reader: every call with the model's answer and place, whole runs, and hand-made
+//! places.
 
 use crate::tally::{Function, Tally};
 use crate::{archive, consistency, places};
 use cdf_model::check::{check, listing};
+use cdf_model::explain::explain;
 use cdf_model::numbers::{self, reader_place, ReaderNumbers, CODES};
 use cdf_model::random::Random;
 use cdf_model::reader::Call;
@@ -23,6 +25,19 @@ pub fn compare_check(tally: &mut Tally, stream: &[u8]) {
         tally.differ("cdf_check", &hex(stream), &one, &other);
     }
     tally.met(Function::Check, owed.0);
+}
+
+/// The number, and every entry of the answer, also those that are not used.
+pub fn compare_explain(tally: &mut Tally, stream: &[u8]) {
+    let said = archive::explain(stream);
+    let told = explain(stream);
+    let owed = (told.number, numbers::explanation(&told));
+    if said != owed {
+        let (one, other) = (format!("{said:?}"), format!("{owed:?}"));
+        tally.differ("cdf_explain", &hex(stream), &one, &other);
+    }
+    tally.met(Function::Explain, told.number);
+    tally.explained(&told);
 }
 
 /// One call on both sides. The place is then the archive's, which is compared.
@@ -167,6 +182,7 @@ const SMALL: usize = 1_500;
 
 pub fn compare(tally: &mut Tally, stream: &[u8], tree: Option<&Tree>, random: &mut Random) {
     compare_check(tally, stream);
+    compare_explain(tally, stream);
     let accepted = check(stream);
     let units = accepted.map_or(stream.len() / 12, |units| units as usize);
     let small = stream.len() <= SMALL || random.one_in(20);

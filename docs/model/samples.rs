@@ -1,4 +1,4 @@
-//! The samples K1 to K12 of document 01.
+//! The samples K1 to K12 of document 01, and explanations worked out by hand.
 
 use crate::rules::Refusal;
 
@@ -32,3 +32,32 @@ pub fn samples() -> [(&'static str, Vec<u8>, Result<u64, Refusal>); 12] {
         ("K12", K12.to_vec(), Ok(2)),
     ]
 }
+
+/// What is told of some of the stored cases: id and start of the open units, and the ids.
+pub const TOLD: [(&str, &[(u64, u64)], &[u64]); 25] = [
+    ("k1", &[], &[]),
+    ("k2", &[], &[]),
+    ("k3", &[], &[1, 4, 13]),
+    ("k4", &[(13, 0)], &[14]),
+    ("k5", &[], &[1, 4, 13]),
+    ("k6", &[(13, 0)], &[14]),
+    ("k7", &[(13, 0)], &[14]),
+    ("k8", &[(4, 0)], &[5, 9, 10]),
+    ("k9", &[], &[1, 4, 13]),
+    ("k10", &[(4, 0), (5, 6)], &[6, 7, 8]),
+    ("k11", &[(4, 0)], &[5, 9, 10]),
+    ("k12", &[], &[]),
+    ("full-and-one", &[], &[1, 4, 13]),
+    ("second-group", &[(1, 0)], &[2]),
+    ("key-after-field", &[(4, 0), (5, 6)], &[8]),
+    ("five-deep-fault", &[(1, 0), (4, 14), (9, 20), (11, 30)], &[6, 7]),
+    ("no-call", &[(1, 0)], &[2]),
+    ("no-template", &[(4, 0)], &[5, 9, 10]),
+    ("no-line-inside", &[(1, 0), (13, 14)], &[14]),
+    ("no-key-inside", &[(1, 0), (4, 14), (5, 38)], &[6, 7]),
+    ("no-entity-key", &[(4, 0), (9, 6), (11, 16)], &[6, 7]),
+    ("no-entity-key-innermost", &[(4, 0), (9, 6), (11, 16)], &[6, 7]),
+    ("nested.9-12-14", &[(4, 0), (9, 6)], &[11, 12]),
+    ("both-3-7", &[(4, 0), (9, 6)], &[]),
+    ("both-10-4", &[(4, 0), (5, 6)], &[6, 7]),
+];

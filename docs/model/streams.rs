@@ -1,8 +1,9 @@
-//! Streams to be asked on: trees grown by the grammar, damaged trees and bytes, and random bytes.
+//! Streams to be asked on: trees grown by the grammar, damaged or redirected, damaged bytes and random bytes.
 
 use crate::builder::Request;
 use crate::random::Random;
-use crate::rules::{after, complete, kind, opens, Had, Part, MARK};
+use crate::rules::{after, complete, kind, opens, Had, Part, Unit, MARK};
+use crate::units::list;
 
 #[derive(Clone)]
 pub struct Tree {
@@ -138,6 +139,36 @@ pub fn filled(id: u64, size: usize, random: &mut Random) -> Tree {
         tree.nested.push(more);
     }
     tree
+}
+
+/// The front of a stream, then these bytes, to which the lengths of the units that are still open are fitted.
+pub fn gone_on(front: &[u8], open: &[Unit], more: &[u8]) -> Vec<u8> {
+    let mut bytes = [front, more].concat();
+    let end = bytes.len();
+    for unit in open {
+        let start = unit.start as usize;
+        bytes[start + 2..start + 4].copy_from_slice(&((end - start) as u16).to_be_bytes());
+    }
+    bytes
+}
+
+/// An accepted stream up to where a unit may have its first nested one or ends; then a unit of any id, or at most a few
+/// bytes. Of the units that end there some may stay open.
+pub fn redirected(stream: &[u8], random: &mut Random) -> Vec<u8> {
+    let mut units = list(stream).units;
+    let last = random.pick(&units);
+    let at = match opens(last.id) && random.one_in(2) {
+        true => last.own,
+        false => last.end,
+    };
+    units.retain(|unit| opens(unit.id) && unit.start < at && at <= unit.end);
+    let further = units.iter().filter(|unit| at < unit.end).count();
+    units.truncate(random.between(further.max(1), units.len()));
+    let more = match random.below(4) {
+        0 => vec![0; random.below(6)],
+        _ => grow(random.between(1, 14) as u64, 0, random).bytes(),
+    };
+    gone_on(&stream[..at as usize], &units, &more)
 }
 
 /// Damages units of a tree: their own fields, or their order.

@@ -1,5 +1,6 @@
 //! What was compared, how often, and with which numbers; and the end of a run at the first difference.
 
+use cdf_model::explain::Explanation;
 use cdf_model::{builder, reader};
 use std::collections::BTreeMap;
 
@@ -15,6 +16,7 @@ pub enum Function {
     AbnormalEnd,
     Replay,
     Listing,
+    Explain,
     BuildFirst,
     BuildNext,
     AddStream,
@@ -35,7 +37,7 @@ impl From<reader::Call> for Function {
 }
 
 /// The numbers that each function can give.
-const CAN_GIVE: [(&str, &[usize]); 13] = [
+const CAN_GIVE: [(&str, &[usize]); 14] = [
     ("cdf_check", &[0, 3, 4, 5, 6, 7, 8, 9, 10]),
     ("cdf_first", &[0, 3, 4, 5, 6, 7, 8]),
     ("cdf_next", &[0, 1, 2, 3, 4, 5, 6, 7, 8, 9, 10, 11]),
@@ -45,26 +47,46 @@ const CAN_GIVE: [(&str, &[usize]); 13] = [
     ("cdf_abnormal_end", &[0]),
     ("cdf_replay", &[0, 12]),
     ("cdf_listing", &[0, 12]),
+    ("cdf_explain", &[0, 3, 4, 5, 6, 7, 8, 9, 10]),
     ("cdf_build_first", &[0, 6, 7, 12]),
     ("cdf_build_next", &[0, 2, 6, 7, 8, 9, 10, 12, 13]),
     ("cdf_build_add_stream", &[0, 2, 7, 10, 12, 13, 14]),
     ("cdf_build_finish", &[0, 2, 10]),
 ];
 const READER: std::ops::Range<usize> = 1..7;
-const BUILDER: std::ops::Range<usize> = 9..13;
+const BUILDER: std::ops::Range<usize> = 10..14;
 
 /// The clauses of the reader's rule, by their place in it, that need not be missed alone: a place with no open unit gets
 /// 11, one with more than four has units of no kind, and a number that is no state tells no kind either.
 const NOT_ASKED: [usize; 2] = [0, 7];
 
+/// The kinds of refusals that must have been explained. 'There' is the end of the incomplete unit, 'before it' is where the
+/// refused unit stands, or inside the incomplete one at its end.
+const EXPLAINED: [&str; 13] = [
+    "no unit open",
+    "one unit open",
+    "two units open",
+    "three units open",
+    "four units open",
+    "no id admitted",
+    "10, and one open unit ends there",
+    "10, and two open units end there",
+    "10, and three open units end there",
+    "10, and four open units end there",
+    "one complete unit closed before it",
+    "two complete units closed before it",
+    "three complete units closed before it",
+];
+
 pub struct Tally {
     pub seed: u64,
     pub round: u64,
-    met: [[u64; 15]; 13],
+    met: [[u64; 15]; 14],
     kinds: BTreeMap<&'static str, u64>,
     /// How many hand-made places missed one clause alone.
     reader_missed: [u64; reader::CLAUSES.len()],
     builder_missed: [u64; builder::CLAUSES.len()],
+    explained: [u64; EXPLAINED.len()],
 }
 
 impl Tally {
@@ -72,10 +94,11 @@ impl Tally {
         Tally {
             seed,
             round: 0,
-            met: [[0; 15]; 13],
+            met: [[0; 15]; 14],
             kinds: BTreeMap::new(),
             reader_missed: [0; reader::CLAUSES.len()],
             builder_missed: [0; builder::CLAUSES.len()],
+            explained: [0; EXPLAINED.len()],
         }
     }
 
@@ -104,6 +127,25 @@ impl Tally {
         }
     }
 
+    pub fn explained(&mut self, told: &Explanation) {
+        if told.number == 0 {
+            return;
+        }
+        self.explained[told.open.len()] += 1;
+        self.explained[5] += u64::from(told.ids.is_empty());
+        if let (10, Some(incomplete)) = (told.number, told.open.last()) {
+            let there = told.open.iter().filter(|unit| unit.end == incomplete.end);
+            self.explained[5 + there.count()] += 1;
+        }
+    }
+
+    /// A refusal before which so many complete units were closed.
+    pub fn closed(&mut self, units: usize) {
+        if units > 0 {
+            self.explained[9 + units] += 1;
+        }
+    }
+
     fn calls(&self, of: std::ops::Range<usize>) -> u64 {
         self.met[of].iter().flatten().sum()
     }
@@ -124,7 +166,7 @@ impl Tally {
     }
 
     /// Prints the figures. False if a number was not met that the function can give, or met that it cannot, or if a clause
-    /// was never missed alone.
+    /// was never missed alone, or a kind of refusal not explained.
     pub fn report(&self) -> bool {
         let mut good = true;
         println!("compared:");
@@ -152,24 +194,26 @@ impl Tally {
                 good = false;
             }
         }
-        let (reader, builder) = (&reader::CLAUSES, &builder::CLAUSES);
-        good &= alone("reader", reader, &self.reader_missed, &NOT_ASKED);
-        good &= alone("builder", builder, &self.builder_missed, &[]);
+        let reader = "hand-made places of the reader that missed one clause alone";
+        good &= each_met(reader, &reader::CLAUSES, &self.reader_missed, &NOT_ASKED);
+        let builder = "hand-made places of the builder that missed one clause alone";
+        good &= each_met(builder, &builder::CLAUSES, &self.builder_missed, &[]);
+        good &= each_met("refusals explained", &EXPLAINED, &self.explained, &[]);
         good
     }
 }
 
-/// Prints how often each clause of a rule was the only one that a hand-made place missed.
-fn alone(of: &str, clauses: &[&str], missed: &[u64], not_asked: &[usize]) -> bool {
+/// Prints how often each of these was met. False if one was not, unless it is not asked for.
+fn each_met(of: &str, labels: &[&str], met: &[u64], not_asked: &[usize]) -> bool {
     let mut good = true;
-    println!("hand-made places of the {of} that missed one clause alone:");
-    for (index, (clause, missed)) in clauses.iter().zip(missed).enumerate() {
+    println!("{of}:");
+    for (index, (label, met)) in labels.iter().zip(met).enumerate() {
         if not_asked.contains(&index) {
             continue;
         }
-        println!("{missed:>12} {clause}");
-        if *missed == 0 {
-            println!("FAILED: never missed alone");
+        println!("{met:>12} {label}");
+        if *met == 0 {
+            println!("FAILED: not met");
             good = false;
         }
     }

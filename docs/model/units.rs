@@ -50,7 +50,7 @@ fn following(stream: &[u8], units: &[Unit]) -> Result<Option<Unit>, Refusal> {
 
 /// The ids of the listed units directly inside a listed one: the first starts at its own end, each other at the end of
 /// the one before.
-fn had(units: &[Unit], index: usize) -> Vec<u64> {
+pub fn had(units: &[Unit], index: usize) -> Vec<u64> {
     let mut at = units[index].own;
     let mut ids = Vec::new();
     for nested in &units[index + 1..] {

@@ -20,7 +20,7 @@ use Rattle.cdf_judge.specs.declared.Judged.the-variants.{Fault, Found}
 use Rattle.cdf_table.proofs.Bools.{of-cond}
 
 abbrev pub Numbered : ℕ → Type 0
-Numbered n = (3 ≤ n) × (n ≤ 10)
+Numbered n = (3 ≤ n) × (n ≤ 9)
 
 abbrev OfHeader : Header → Type 0
 OfHeader (Stop n) = Numbered n

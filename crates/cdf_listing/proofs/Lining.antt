@@ -10,7 +10,7 @@ use Rattle.cdf_place.specs.Calls.{firstOf, nextOf}
 use Rattle.cdf_runs.proofs.Further.{first-later, next-later, ahead, less}
 use Rattle.cdf_reader.specs.View.{view, replyOf}
 use Rattle.cdf_reader.specs.declared.Answer.{Answer}
-use Rattle.cdf_reader.proofs.Stepped.{length-open}
+use Rattle.cdf_reader.proofs.Counted.{length-open}
 use Rattle.cdf_text.specs.Text.{lineOf, listedLines}
 use Rattle.cdf_text.proofs.Deep.{depthIn}
 use Rattle.cdf_text.proofs.Short.{listed-short}

@@ -1,3 +1,4 @@
+pub mod Counted
 pub mod Closings
 pub mod Entered
 pub mod Stepped

@@ -20,7 +20,7 @@ use Rattle.cdf_place.specs.Slots.{noOpen, around, openUnits, placeOf}
 use Rattle.cdf_place.proofs.Replying.{first-is}
 use Rattle.cdf_reader.specs.View.{view}
 use Rattle.cdf_reader.specs.declared.Place.{Place}
-use Rattle.cdf_reader.proofs.Stepped.{length-open}
+use Rattle.cdf_reader.proofs.Counted.{length-open}
 
 -- A place is empty exactly if its count is 0.
 pub empty-is : (p : Place) → isEmpty (view p) ≡ eqb (p .count) 0

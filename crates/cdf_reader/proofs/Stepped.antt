@@ -26,17 +26,8 @@ use Rattle.cdf_place.proofs.Suffix.{suffix, ends-most, ends-least}
 use Rattle.cdf_reader.specs.View.{view}
 use Rattle.cdf_reader.specs.Left.{Closed}
 use Rattle.cdf_reader.specs.declared.Place.{Place}
-
-length-around : (o1 o2 o3 : Open) (k : ℕ) → length (around o1 o2 o3 k) ≡ k
-unfolding around
-length-around o1 o2 o3 zero = refl
-length-around o1 o2 o3 (suc k) = ap suc (length-around o1 o2 o3 k)
-
--- As many units are open as the count says.
-pub length-open : (count : ℕ) (top o1 o2 o3 : Open) → length (openUnits count top o1 o2 o3) ≡ count
-unfolding openUnits
-length-open zero top o1 o2 o3 = refl
-length-open (suc k) top o1 o2 o3 = ap suc (length-around o1 o2 o3 k)
+use Rattle.cdf_reader.proofs.Counted.{length-open}
+use Rattle.cdf_reader.proofs.Closings.{close-unclosed}
 
 -- Where there is one, the innermost comes first.
 split : (count : ℕ) (top o1 o2 o3 : Open) → (count ≡ 0 → ⊥) → (os : List Open) × (openUnits count top o1 o2 o3 ≡ top ∷ os)
@@ -68,9 +59,12 @@ module _ (l : Layout) (s : List ℕ) (p : Place) (fit : fits l (length s) (view 
     abbrev Next : Step
     Next = step l s (view p .units) (p .position)
 
+    pub few-left : count ≤ 4
+    few-left = omega (arith, c .few, few, length-open (p .count) (p .top) (p .o1) (p .o2) (p .o3))
+
     by-close : Next ≡ stepIn l s (p .position) (close Left (p .position))
     unfolding step
-    by-close = rw (c .same)
+    by-close = rw (close-unclosed (view p .units) (p .position), c .is)
 
     pub at-end : count ≡ 0 → Next ≡ done
     unfolding stepIn close openUnits

@@ -9,12 +9,14 @@ ghost use Rattle.cdf_units.specs.Units.{after};
 ghost use Rattle.cdf_prefix.specs.Layout.{layoutOf};
 ghost use Rattle.cdf_place.specs.Place.{fits};
 ghost use Rattle.cdf_place.specs.Calls.{stepped};
+ghost use Rattle.cdf_place.specs.Closing.{closedAt};
 ghost use Rattle.cdf_place.specs.Slots.{openUnits};
 ghost use Rattle.cdf_reader.specs.View.{view, replyOf};
 ghost use Rattle.cdf_reader.specs.Left.{outside, leftIn, Closed};
 use crate::Answer;
 use crate::Left;
 use crate::Place;
+use crate::nothing::no_open;
 use crate::nothing::refused;
 use cdf_fit::fits;
 use cdf_judge::Judged;
@@ -25,7 +27,7 @@ use cdf_table::is_complete;
 use cdf_units::Open;
 use cdf_units::Unit;
 
-// The unit around the innermost of so many, two to four.
+// The unit around the innermost of so many.
 fn around(count: usize, o1: Open, o2: Open, o3: Open) -> Open
     ensures { λ r. ⌜ r ≡ outside count o1 o2 o3 ⌝ }
 {
@@ -35,12 +37,14 @@ fn around(count: usize, o1: Open, o2: Open, o3: Open) -> Open
     if count == 3 {
         return o2;
     }
-    o3
+    if count == 4 {
+        return o3;
+    }
+    no_open()
 }
 
 // Closes the complete units that end at the position, innermost first.
 fn close(position: usize, count: usize, top: Open, o1: Open, o2: Open, o3: Open) -> Left
-    requires { ⌜ count ≤ 4 ⌝ }
     ensures { λ r. ⌜ Closed position (openUnits count top o1 o2 o3) o1 o2 o3 (r .count) (r .top) ⌝ }
 {
     let mut left = count;
@@ -203,6 +207,30 @@ impl Place {
                 };
                 enter(self, left, unit, state)
             }
+        }
+    }
+
+    // The place once the complete units that end at its position are closed: what is open where a refused unit stands, for a tool that
+    // says so.
+    pub fn close_ended(self) -> Place
+        ensures { λ r. ⌜ view r ≡ closedAt (view self) ⌝ }
+    {
+        let top = self.top;
+        let o1 = self.o1;
+        let o2 = self.o2;
+        let o3 = self.o3;
+        let left = close(self.position, self.count, top, o1, o2, o3);
+        let inner = left.top;
+        let last = self.last;
+        Place {
+            position: self.position,
+            count: left.count,
+            top: inner,
+            o1,
+            o2,
+            o3,
+            last,
+            fresh: self.fresh,
         }
     }
 }

@@ -1,5 +1,5 @@
 -- A fault of the unit list has one of the numbers 3 to 10.
-use Prim.Native.Nat.{ℕ, zero, suc, _-_}
+use Prim.Native.Nat.{ℕ, zero, suc, _-_, _≤_}
 use mathlib.Core.Path.{_≡_, subst}
 use mathlib.Core.Bool.{Bool, false}
 use mathlib.Core.List.{List, [], _∷_}
@@ -14,7 +14,10 @@ use Rattle.cdf_units.specs.Units.{Next, whole, broken, listed, after, st
 use Rattle.cdf_units.specs.Units.{openAt, closingAt, End, unfinished, ended, fault, goOn, listFrom, listBy}
 use Rattle.cdf_units.specs.declared.Unit.{Unit}
 use Rattle.cdf_table.proofs.Bools.{of-cond}
-use Rattle.cdf_judge.proofs.Faults.{Numbered, OfJudged, of-judge}
+use Rattle.cdf_judge.proofs.Faults.{OfJudged, of-judge}
+
+abbrev pub Numbered : ℕ → Type 0
+Numbered n = (3 ≤ n) × (n ≤ 10)
 
 abbrev OfNext : Next → Type 0
 OfNext whole = record {}
@@ -29,7 +32,7 @@ OfEnd (fault n at) = Numbered n
 module _ (l : Layout) where
   of-unit : (pos m : ℕ) (j : Judged) → OfJudged m j → OfNext (unitAt pos j)
   unfolding unitAt
-  of-unit pos m (Fault n k) p = p .0
+  of-unit pos m (Fault n k) p = omega arith
   of-unit pos m (Found id action own len state) p = p
 
   of-closed : (us cs : List Unit) → OfNext (closed us cs)

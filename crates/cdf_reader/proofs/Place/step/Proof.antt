@@ -7,15 +7,12 @@ use Rattle.cdf_prefix.specs.Layout.{layoutOf}
 use Rattle.cdf_place.specs.Calls.{Reply, stepped}
 use Rattle.cdf_reader.specs.View.{view, replyOf}
 use Rattle.cdf_reader.specs.declared.Answer.{Answer}
-use Rattle.cdf_reader.proofs.Stepped.{few, at-end, at-incomplete, inside-fault, inside-found, within, room, unit-within, fault-within}
+use Rattle.cdf_reader.proofs.Stepped.{few-left, at-end, at-incomplete, inside-fault, inside-found, within, room, unit-within, fault-within}
 use Rattle.cdf_reader.proofs.Place.step.Statement.{statement}
 use Rattle.cdf_reader.proofs.Place.step.Tie as tie
 
 close-requires : tie.Need-close-requires
-close-requires c κs =
-    let start = c .before .before .before .before .before in
-    let a = start .args in
-    few (layoutOf (a .edition)) (a .s .now) (a .self) (start .pre)
+close-requires c κs = search needs
 
 refused-requires : tie.Need-refused-requires
 refused-requires c κs = search needs
@@ -117,7 +114,7 @@ enter-requires c κs =
     let e = sym (seen .judge .ensures) ∙ c .before .id .given .1 in
     let some = apart .before .if1 .left in (
       omega (arith, some),
-      shut .close .ensures .few,
+      few-left (layoutOf (a .edition)) (a .s .now) (a .self) (start .pre) (shut .close .ensures),
       room (layoutOf (a .edition)) (a .s .now) (a .self) (start .pre) (shut .close .ensures) some _ e,
     )
 

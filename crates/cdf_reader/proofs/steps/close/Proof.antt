@@ -15,7 +15,7 @@ abbrev μ-loop : tie.MeasureT-loop
 μ-loop position count o1 o2 o3 left₀ inner₀ left inner = left
 
 loop-holds : tie.Need-loop-holds Inv-loop μ-loop
-loop-holds c = begun _ _ _ _ _ _ (c .pre)
+loop-holds c = begun _ _ _ _ _ _
 
 returns : tie.Need-returns Inv-loop μ-loop
 returns c = stopped _ _ _ _ _ (c .before .before .before .loop .inv) (λ some e. absurd (c .if1 .taken e))

@@ -1,0 +1,4 @@
+pub mod Filling
+pub mod Levels
+pub mod Telling
+pub mod Explaining

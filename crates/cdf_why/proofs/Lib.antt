@@ -1,0 +1,6 @@
+pub mod Kept
+pub mod Stands
+pub mod Ids
+pub mod Inwards
+pub mod Told
+pub mod Proved

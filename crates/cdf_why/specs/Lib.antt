@@ -1,0 +1,3 @@
+pub mod Why
+pub mod Samples
+pub mod Claims

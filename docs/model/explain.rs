@@ -1,0 +1,37 @@
+//! Why a stream is refused (document 02, a), from the bytes and their unit list.
+
+use crate::check::follows;
+use crate::rules::{is_root, Refusal, Unit};
+use crate::units::{had, list};
+
+/// Nothing but zeros for an accepted stream.
+#[derive(Default, PartialEq, Debug)]
+pub struct Explanation {
+    pub number: u64,
+    pub offset: u64,
+    /// The open units, from the root inwards.
+    pub open: Vec<Unit>,
+    /// What the innermost of them admits, rising.
+    pub ids: Vec<u64>,
+}
+
+pub fn explain(stream: &[u8]) -> Explanation {
+    let listed = list(stream);
+    let units = &listed.units;
+    let Some(Refusal { number, offset }) = listed.fault else {
+        return Explanation::default();
+    };
+    // Open are the listed units that hold the byte at the offset. Those that end where the refused unit stands are complete
+    // and do not hold it. With 10 it is the first byte of the incomplete unit: that unit and all around it hold it, wherever
+    // they end, and none inside does.
+    let holds = |index: &usize| units[*index].start <= offset && offset < units[*index].end;
+    let open: Vec<usize> = (0..units.len()).filter(holds).collect();
+    let ids = match open.last() {
+        None => (1..=14).filter(|id| is_root(*id)).collect(),
+        Some(&innermost) => {
+            let had = had(units, innermost);
+            (1..=14).filter(|id| follows(units[innermost].id, &had, *id)).collect()
+        }
+    };
+    Explanation { number, offset, open: open.iter().map(|index| units[*index]).collect(), ids }
+}
