@@ -21,7 +21,8 @@
 extern "C" {
 #endif
 
-/* The numbers. Those of the rules, 3 to 10, come with an offset: where in the stream the rule is broken. */
+/* The numbers. Those of the rules, 3 to 10, come with an offset: where in the stream the rule is broken, the unit's start, and
+   beside CDF_DATA the first byte that offends. */
 #define CDF_OK 0            /* done */
 #define CDF_END 1           /* no unit is left to hand out */
 #define CDF_UNFIT 2         /* the place cannot belong to these bytes */

@@ -1,7 +1,9 @@
 //! A plain check, reader, explanation and replay: what the proved ones are measured against. Their state is mutable and
 //! their own, so no call tests it again. The proved NEXT must: its place is the caller's.
 
-use crate::rules::{action_allowed, opens, own_data, prefix, root, root_kind, Prefix, Progress, Stop, Unit};
+use crate::rules::{
+    action_allowed, before_wrong, opens, own_data, prefix, root, root_kind, Prefix, Progress, Stop, Unit,
+};
 
 struct Open {
     progress: Progress,
@@ -27,7 +29,9 @@ fn nested(stream: &[u8], start: usize, open: &mut Open) -> Result<Unit, Stop> {
     if !action_allowed(id, action) {
         return Err(stop(8));
     }
-    let taken = own_data(id, &rest[6..length]).ok_or(stop(9))?;
+    let data = &rest[6..length];
+    let wrong = || Stop { number: 9, offset: start + 6 + before_wrong(id, data) };
+    let taken = own_data(id, data).ok_or_else(wrong)?;
     open.progress.add(id);
     Ok(Unit { id, action, start, own: start + 6 + taken, end: start + length })
 }

@@ -112,6 +112,26 @@ pub fn own_data(id: u8, data: &[u8]) -> Option<usize> {
     }
 }
 
+/// Of own data that breaks its rule: how many bytes stand before the one that 9 names (request b) of 02).
+#[cold]
+#[inline(never)]
+pub fn before_wrong(id: u8, data: &[u8]) -> usize {
+    match (id, data) {
+        (2 | 3 | 5 | 8 | 11, [count @ 1..=32, text @ ..]) if text.len() >= *count as usize => {
+            let name = &text[..*count as usize];
+            let wrong = |(at, byte): (usize, &u8)| match byte {
+                b'A'..=b'Z' => false,
+                b'0'..=b'9' | b'_' => at == 0,
+                _ => true,
+            };
+            // With a right name it is the value that is too long.
+            1 + name.iter().enumerate().position(wrong).unwrap_or(name.len() + 4096)
+        }
+        (7 | 14, _) => 4096,
+        _ => 0,
+    }
+}
+
 pub struct Prefix {
     pub length: usize,
     pub action: u8,

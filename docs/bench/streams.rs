@@ -177,7 +177,7 @@ fn set_length(bytes: &mut [u8], start: usize, length: usize) {
     bytes[start + 2..start + 4].copy_from_slice(&(length as u16).to_be_bytes());
 }
 
-/// A sample of document 01, and the check's answer: 0 with the count of units, or the refusal and its offset. Of a refused
+/// A sample of document 01, and the check's answer, for K11 by request b of document 02: 0 with the count of units, or the refusal and its offset. Of a refused
 /// one, by request a of document 02, id and start of the units open there and the ids that may stand there.
 pub struct Sample {
     pub name: &'static str,
@@ -210,7 +210,7 @@ pub fn samples() -> [Sample; 12] {
         changed("K8", K2, 9, 0x17, (7, 29), &[(4, 0)], &[5, 9, 10]),
         changed("K9", K2, 1, 0xF0, (4, 0), &[], ROOTS),
         changed("K10", K2, 33, 0x00, (8, 29), &[(4, 0), (5, 6)], &[6, 7, 8]),
-        changed("K11", K2, 13, 0x31, (9, 6), &[(4, 0)], &[5, 9, 10]),
+        changed("K11", K2, 13, 0x31, (9, 13), &[(4, 0)], &[5, 9, 10]),
         sample("K12", K12, (0, 2), &[], &[]),
     ]
 }

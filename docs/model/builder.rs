@@ -152,7 +152,7 @@ pub fn next(buffer: &mut [u8], place: &Place, request: &Request) -> Result<Place
         return Err(8);
     }
     // Nothing may follow a name or fixed numbers but a value.
-    let own = own_length(*id, data).ok_or(9_u64)?;
+    let own = own_length(kind, data).map_err(|_| 9_u64)?;
     if opens(*id) && own != data.len() {
         return Err(9);
     }

@@ -1,5 +1,6 @@
 //! The model against itself: what document 01 says of whole runs holds of it, by ways that share little code.
 
+use crate::pointed;
 use crate::readers::hex;
 use crate::tally::Tally;
 use cdf_model::builder::{self, requests, Request};
@@ -8,6 +9,7 @@ use cdf_model::check::check;
 use cdf_model::explain::{explain, Explanation};
 use cdf_model::numbers::CODES;
 use cdf_model::plain::Plain;
+use cdf_model::random::Random;
 use cdf_model::reader::{call, Call, Place, Reply};
 use cdf_model::rules::{complete, Refusal, Unit, LIMIT};
 use cdf_model::streams::{gone_on, Tree};
@@ -20,7 +22,7 @@ fn expect(tally: &Tally, holds: bool, what: &str, stream: &[u8]) {
 }
 
 /// The unit list, the check and the reader; and the tree, if the stream was grown from one.
-pub fn stream(tally: &mut Tally, stream: &[u8], tree: Option<&Tree>) {
+pub fn stream(tally: &mut Tally, stream: &[u8], tree: Option<&Tree>, random: &mut Random) {
     let listed = list(stream);
     let answer = match listed.fault {
         None => Ok(listed.units.len() as u64),
@@ -39,7 +41,7 @@ pub fn stream(tally: &mut Tally, stream: &[u8], tree: Option<&Tree>) {
     let owed = if listed.units.is_empty() { (11, 0) } else { end };
     let again = call(Call::Next, stream, &reply.place);
     expect(tally, (again.number, again.offset) == owed, "NEXT after the end", stream);
-    explained(tally, stream, &reply.place);
+    explained(tally, stream, &reply.place, random);
     if let Some(tree) = tree {
         let same = answer.is_ok() && tree.requests() == requests(stream);
         expect(tally, same, "a tree of the grammar and its reading", stream);
@@ -49,7 +51,7 @@ pub fn stream(tally: &mut Tally, stream: &[u8], tree: Option<&Tree>) {
 }
 
 /// What is told of a stream, against the check, and against the place at which the reader met the fault.
-fn explained(tally: &mut Tally, stream: &[u8], place: &Place) {
+fn explained(tally: &mut Tally, stream: &[u8], place: &Place, random: &mut Random) {
     let told = explain(stream);
     let Err(refusal) = check(stream) else {
         return expect(tally, told == Explanation::default(), "nothing is told of an accepted stream", stream);
@@ -59,6 +61,16 @@ fn explained(tally: &mut Tally, stream: &[u8], place: &Place) {
     let inside = |pair: &[Unit]| pair[0].own <= pair[1].start && pair[1].end <= pair[0].end;
     expect(tally, told.open.windows(2).all(inside), "each open unit in the one before", stream);
     expect(tally, told.number != 10 || !told.ids.is_empty(), "what an incomplete unit takes", stream);
+    let stands = match (told.number, told.open.last()) {
+        (10, incomplete) => incomplete.is_some_and(|unit| (unit.start, unit.end) == (told.offset, place.position)),
+        (9, _) => told.at == place.position,
+        _ => told.offset == place.position,
+    };
+    expect(tally, stands, "where the refused unit stands", stream);
+    if told.number == 9 {
+        let broken = pointed::broken(stream, &told, random);
+        expect(tally, broken.is_none(), broken.unwrap_or_default(), stream);
+    }
 
     let mut left = place.open.clone();
     while left.pop_if(|unit| unit.end == place.position && complete(unit.id, unit.had)).is_some() {}
@@ -69,10 +81,7 @@ fn explained(tally: &mut Tally, stream: &[u8], place: &Place) {
 
     // A small unit of each id, where the refused one stands or after all that the incomplete one has had, and nothing after
     // it. If the id was told the check passes it, though a unit around it may still be incomplete; else it gets 7.
-    let at = match told.open.last() {
-        Some(incomplete) if told.number == 10 => incomplete.end,
-        _ => told.offset,
-    };
+    let at = place.position;
     for id in 1..=14 {
         let tried = gone_on(&stream[..at as usize], &told.open, &cases::complete(id as u8));
         let holds = match (check(&tried), told.ids.contains(&id)) {

@@ -2,13 +2,15 @@
 
 use crate::check::follows;
 use crate::rules::{is_root, Refusal, Unit};
-use crate::units::{had, list};
+use crate::units::{had, list, position};
 
 /// Nothing but zeros for an accepted stream.
 #[derive(Default, PartialEq, Debug)]
 pub struct Explanation {
     pub number: u64,
     pub offset: u64,
+    /// Where the refused unit stands or would stand; with 10, where the incomplete one does. It is not told.
+    pub at: u64,
     /// The open units, from the root inwards.
     pub open: Vec<Unit>,
     /// What the innermost of them admits, rising.
@@ -21,10 +23,11 @@ pub fn explain(stream: &[u8]) -> Explanation {
     let Some(Refusal { number, offset }) = listed.fault else {
         return Explanation::default();
     };
-    // Open are the listed units that hold the byte at the offset. Those that end where the refused unit stands are complete
-    // and do not hold it. With 10 it is the first byte of the incomplete unit: that unit and all around it hold it, wherever
+    // Open are the listed units that hold the byte at which the refused unit stands. Those that end there are complete and
+    // do not hold it. With 10 it is the first byte of the incomplete unit: that unit and all around it hold it, wherever
     // they end, and none inside does.
-    let holds = |index: &usize| units[*index].start <= offset && offset < units[*index].end;
+    let at = if number == 10 { offset } else { position(units) };
+    let holds = |index: &usize| units[*index].start <= at && at < units[*index].end;
     let open: Vec<usize> = (0..units.len()).filter(holds).collect();
     let ids = match open.last() {
         None => (1..=14).filter(|id| is_root(*id)).collect(),
@@ -33,5 +36,5 @@ pub fn explain(stream: &[u8]) -> Explanation {
             (1..=14).filter(|id| follows(units[innermost].id, &had, *id)).collect()
         }
     };
-    Explanation { number, offset, open: open.iter().map(|index| units[*index]).collect(), ids }
+    Explanation { number, offset, at, open: open.iter().map(|index| units[*index]).collect(), ids }
 }

@@ -6,6 +6,7 @@ mod archive;
 mod builders;
 mod consistency;
 mod places;
+mod pointed;
 mod readers;
 mod tally;
 
@@ -13,7 +14,8 @@ use cdf_model::cases::cases;
 use cdf_model::check::check;
 use cdf_model::explain::explain;
 use cdf_model::random::Random;
-use cdf_model::samples::{samples, TOLD};
+use cdf_model::rules::Refusal;
+use cdf_model::samples::{samples, POINTED, TOLD};
 use cdf_model::streams::{damage_bytes, damage_tree, filled, grow, mend_root, noise, redirected, Tree};
 use std::time::{Duration, Instant};
 use tally::Tally;
@@ -93,9 +95,12 @@ fn fixed(tally: &mut Tally) {
         assert_eq!(check(&bytes), owed, "{label}");
     }
     let cases = cases();
+    let labelled = |label| &cases.iter().find(|case| case.0 == label).expect(label).1;
+    for (label, offset) in POINTED {
+        assert_eq!(check(labelled(label)), Err(Refusal { number: 9, offset }), "{label}");
+    }
     for (label, open, ids) in TOLD {
-        let (_, bytes) = cases.iter().find(|case| case.0 == label).expect(label);
-        let told = explain(bytes);
+        let told = explain(labelled(label));
         let units: Vec<(u64, u64)> = told.open.iter().map(|unit| (unit.id, unit.start)).collect();
         assert_eq!((&units[..], &told.ids[..]), (open, ids), "{label}");
     }

@@ -24,7 +24,7 @@ fn answer(stream: &[u8]) -> String {
 }
 
 fn told(stream: &[u8]) -> String {
-    let Explanation { number, offset, open, ids } = explain(stream);
+    let Explanation { number, offset, open, ids, .. } = explain(stream);
     let mut numbers = vec![number, offset, open.len() as u64];
     numbers.extend(open.iter().flat_map(|unit| [unit.id, unit.start]));
     numbers.push(ids.len() as u64);

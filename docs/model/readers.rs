@@ -2,12 +2,13 @@
 //! places.
 
 use crate::tally::{Function, Tally};
-use crate::{archive, consistency, places};
+use crate::{archive, consistency, places, pointed};
 use cdf_model::check::{check, listing};
 use cdf_model::explain::explain;
 use cdf_model::numbers::{self, reader_place, ReaderNumbers, CODES};
 use cdf_model::random::Random;
 use cdf_model::reader::Call;
+use cdf_model::rules::Refusal;
 use cdf_model::streams::Tree;
 
 pub fn hex(bytes: &[u8]) -> String {
@@ -38,6 +39,9 @@ pub fn compare_explain(tally: &mut Tally, stream: &[u8]) {
     }
     tally.met(Function::Explain, told.number);
     tally.explained(&told);
+    if told.number == 9 {
+        tally.pointed(pointed::which(stream, &told));
+    }
 }
 
 /// One call on both sides. The place is then the archive's, which is compared.
@@ -177,7 +181,8 @@ fn compare_hand_made(tally: &mut Tally, stream: &[u8], met: &[ReaderNumbers], ra
     }
 }
 
-/// Streams up to this size are asked everything each time; the unit list of the model takes the square of it.
+/// Streams up to this size, and those that get 9, are asked everything each time; the unit list of the model takes the square
+/// of it.
 const SMALL: usize = 1_500;
 
 pub fn compare(tally: &mut Tally, stream: &[u8], tree: Option<&Tree>, random: &mut Random) {
@@ -185,17 +190,18 @@ pub fn compare(tally: &mut Tally, stream: &[u8], tree: Option<&Tree>, random: &m
     compare_explain(tally, stream);
     let accepted = check(stream);
     let units = accepted.map_or(stream.len() / 12, |units| units as usize);
-    let small = stream.len() <= SMALL || random.one_in(20);
-    if small {
-        consistency::stream(tally, stream, tree);
+    let named = matches!(accepted, Err(Refusal { number: 9, .. }));
+    let asked = stream.len() <= SMALL || named || random.one_in(20);
+    if asked {
+        consistency::stream(tally, stream, tree, random);
     }
-    if small && random.one_in(4) {
+    if asked && random.one_in(4) {
         compare_listing(tally, stream, random);
     }
     let mut met = Vec::new();
     for _ in 0..if accepted.is_ok() { 3 } else { 1 } {
         let codes = call_list(units, random);
-        if small && accepted.is_ok() && codes[0] == 1 {
+        if asked && accepted.is_ok() && codes[0] == 1 {
             consistency::plain(tally, stream, &codes);
         }
         met.extend(compare_list(tally, stream, &codes, random));

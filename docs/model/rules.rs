@@ -1,4 +1,4 @@
-//! The rules of one unit (document 01, One unit): ids, actions, own data, and what may be nested in what.
+//! The rules of one unit (document 01, One unit; document 02, b): ids, actions, own data, and what may be nested in what.
 
 pub const MARK: [u8; 2] = [0xCD, 0xF1];
 pub const PREFIX: usize = 6;
@@ -122,31 +122,43 @@ pub fn complete(id: u64, had: Had) -> bool {
     }
 }
 
-/// The length of the name at the front of the bytes, its count included.
-fn name_length(bytes: &[u8]) -> Option<usize> {
-    let (&count, rest) = bytes.split_first()?;
+/// The length of the name at the front of the bytes, its count included; or how many bytes stand before the first that
+/// breaks the rule: none if it is the count, or if there is no count.
+fn name_length(bytes: &[u8]) -> Result<usize, usize> {
+    let (&count, rest) = bytes.split_first().ok_or(0_usize)?;
     let count = usize::from(count);
     if count == 0 || count > NAME_LIMIT {
-        return None;
+        return Err(0);
     }
-    let text = rest.get(..count)?;
-    let plain = |byte: &u8| matches!(byte, b'A'..=b'Z' | b'0'..=b'9' | b'_');
-    (text.iter().all(plain) && text[0].is_ascii_uppercase()).then_some(1 + count)
+    let text = rest.get(..count).ok_or(0_usize)?;
+    let allowed = |at: usize| match text[at] {
+        b'A'..=b'Z' => true,
+        b'0'..=b'9' | b'_' => at > 0,
+        _ => false,
+    };
+    match (0..count).find(|at| !allowed(*at)) {
+        None => Ok(1 + count),
+        Some(at) => Err(1 + at),
+    }
 }
 
-/// For the bytes of a unit after its prefix: the length of its name or fixed numbers. None if its own data breaks the
-/// rule, which is also where a unit that admits nothing is not filled.
-pub fn own_length(id: u64, bytes: &[u8]) -> Option<usize> {
+/// For the bytes of a unit after its prefix: the length of its name or fixed numbers. If its own data breaks the rule, and
+/// this is also where a unit that admits nothing is not filled: how many bytes stand before the one to blame.
+pub fn own_length(kind: &Kind, bytes: &[u8]) -> Result<usize, usize> {
     let mut length = 0;
-    for part in kind(id)?.own {
+    for part in kind.own {
         match part {
-            Name => length += name_length(&bytes[length..])?,
-            Number => length += bytes[length..].get(..4)?.len(),
-            Value if bytes.len() - length > VALUE_LIMIT => return None,
-            Value => return Some(length),
+            Name => length += name_length(&bytes[length..]).map_err(|before| length + before)?,
+            // The first byte is named, also where only a second number is cut short.
+            Number => length += bytes[length..].get(..4).ok_or(0_usize)?.len(),
+            Value if bytes.len() - length > VALUE_LIMIT => return Err(length + VALUE_LIMIT),
+            Value => return Ok(length),
         }
     }
-    (opens(id) || length == bytes.len()).then_some(length)
+    match kind.admits.is_empty() && length < bytes.len() {
+        true => Err(0),
+        false => Ok(length),
+    }
 }
 
 #[derive(Clone, Copy, Default, PartialEq, Debug)]
@@ -159,6 +171,8 @@ pub struct Unit {
     pub end: u64,
 }
 
+/// The offset is where the unit stands or would stand. With 9 it is that of the byte to blame, with 10 where the incomplete
+/// unit begins.
 #[derive(Clone, Copy, PartialEq, Debug)]
 pub struct Refusal {
     pub number: u64,
@@ -203,8 +217,8 @@ pub fn unit_at(stream: &[u8], start: u64, end: u64, around: Around) -> Result<Un
     if !kind.actions.contains(&action) {
         return refused(8);
     }
-    let Some(own) = own_length(id, &bytes[PREFIX..length]) else {
-        return refused(9);
-    };
-    Ok(Unit { id, action, start, own: start + (PREFIX + own) as u64, end: start + length as u64 })
+    match own_length(kind, &bytes[PREFIX..length]) {
+        Ok(own) => Ok(Unit { id, action, start, own: start + (PREFIX + own) as u64, end: start + length as u64 }),
+        Err(before) => Err(Refusal { number: 9, offset: start + (PREFIX + before) as u64 }),
+    }
 }

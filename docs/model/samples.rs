@@ -1,4 +1,5 @@
-//! The samples K1 to K12 of document 01, and explanations worked out by hand.
+//! The samples K1 to K12 of document 01 (K11 as document 02, b has it), and what is worked out by hand: explanations, and
+//! the bytes that 9 names.
 
 use crate::rules::Refusal;
 
@@ -28,13 +29,13 @@ pub fn samples() -> [(&'static str, Vec<u8>, Result<u64, Refusal>); 12] {
         ("K8", changed(K2, 9, &[0x17]), refused(7, 29)),
         ("K9", changed(K2, 1, &[0xF0]), refused(4, 0)),
         ("K10", changed(K2, 33, &[0x00]), refused(8, 29)),
-        ("K11", changed(K2, 13, &[0x31]), refused(9, 6)),
+        ("K11", changed(K2, 13, &[0x31]), refused(9, 13)),
         ("K12", K12.to_vec(), Ok(2)),
     ]
 }
 
 /// What is told of some of the stored cases: id and start of the open units, and the ids.
-pub const TOLD: [(&str, &[(u64, u64)], &[u64]); 25] = [
+pub const TOLD: [(&str, &[(u64, u64)], &[u64]); 31] = [
     ("k1", &[], &[]),
     ("k2", &[], &[]),
     ("k3", &[], &[1, 4, 13]),
@@ -60,4 +61,43 @@ pub const TOLD: [(&str, &[(u64, u64)], &[u64]); 25] = [
     ("nested.9-12-14", &[(4, 0), (9, 6)], &[11, 12]),
     ("both-3-7", &[(4, 0), (9, 6)], &[]),
     ("both-10-4", &[(4, 0), (5, 6)], &[6, 7]),
+    ("byte-no-count", &[(1, 0)], &[2]),
+    ("byte-no-count-at-n", &[(1, 0)], &[2, 4, 13]),
+    ("byte-no-count-innermost", &[(4, 0), (5, 6)], &[6, 7, 8]),
+    ("byte-no-count-in-first", &[(4, 0), (5, 6)], &[6, 7, 8]),
+    ("byte-count-into-nested", &[(4, 0)], &[5, 9, 10]),
+    ("byte-no-second-number", &[(4, 0)], &[5, 9, 10]),
+];
+
+/// Stored cases that get 9, and the byte that it names.
+pub const POINTED: [(&str, u64); 29] = [
+    ("k11", 13),
+    ("name-past-end", 12),
+    ("name-past-unit", 12),
+    ("both-9-10", 13),
+    ("byte-no-count", 12),
+    ("byte-no-count-at-n", 20),
+    ("byte-no-count-innermost", 30),
+    ("byte-no-count-in-first", 30),
+    ("byte-count-0", 12),
+    ("byte-count-33", 12),
+    ("byte-count-past-unit", 12),
+    ("byte-count-into-nested", 19),
+    ("byte-count-to-end", 13),
+    ("byte-count-into-value", 43),
+    ("byte-first", 36),
+    ("byte-two", 38),
+    ("byte-last", 18),
+    ("byte-value", 4_114),
+    ("byte-value-last", 4_114),
+    ("byte-field-value", 4_131),
+    ("byte-name-and-value", 33),
+    ("byte-count-and-value", 30),
+    ("byte-number-short", 20),
+    ("byte-number-long", 20),
+    ("byte-no-number", 20),
+    ("byte-relation-number", 12),
+    ("byte-second-number", 12),
+    ("byte-no-second-number", 12),
+    ("name.11.none", 32),
 ];

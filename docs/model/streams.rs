@@ -207,7 +207,14 @@ pub fn damage_data(data: &mut Vec<u8>, random: &mut Random) {
         2 => data.insert(at, random.byte()),
         3 if at < data.len() => drop(data.remove(at)),
         4 => *data = [vec![33], vec![b'A'; 33]].concat(),
-        5 => data.resize(random.pick(&[4097, 4098, 4099]), b'A'),
+        5 => {
+            // A value that is too long or nearly so, alone or behind a name, which may be broken too.
+            let name = data.first().map_or(0, |count| 1 + usize::from(*count));
+            data.resize(random.pick(&[0, name]) + random.pick(&[4096, 4097, 4098, 4099]), b'A');
+            if random.one_in(4) {
+                data[random.below(name + 1)] = random.pick(b"\x00\x21/:@[^`az\xFF");
+            }
+        }
         _ => data.clear(),
     }
 }

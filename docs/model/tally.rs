@@ -1,5 +1,6 @@
 //! What was compared, how often, and with which numbers; and the end of a run at the first difference.
 
+use crate::pointed::{Byte, BYTES};
 use cdf_model::explain::Explanation;
 use cdf_model::{builder, reader};
 use std::collections::BTreeMap;
@@ -87,6 +88,7 @@ pub struct Tally {
     reader_missed: [u64; reader::CLAUSES.len()],
     builder_missed: [u64; builder::CLAUSES.len()],
     explained: [u64; EXPLAINED.len()],
+    pointed: [u64; BYTES.len()],
 }
 
 impl Tally {
@@ -99,6 +101,7 @@ impl Tally {
             reader_missed: [0; reader::CLAUSES.len()],
             builder_missed: [0; builder::CLAUSES.len()],
             explained: [0; EXPLAINED.len()],
+            pointed: [0; BYTES.len()],
         }
     }
 
@@ -146,6 +149,10 @@ impl Tally {
         }
     }
 
+    pub fn pointed(&mut self, byte: Byte) {
+        self.pointed[byte as usize] += 1;
+    }
+
     fn calls(&self, of: std::ops::Range<usize>) -> u64 {
         self.met[of].iter().flatten().sum()
     }
@@ -166,7 +173,7 @@ impl Tally {
     }
 
     /// Prints the figures. False if a number was not met that the function can give, or met that it cannot, or if a clause
-    /// was never missed alone, or a kind of refusal not explained.
+    /// was never missed alone, a kind of refusal not explained, or a kind of byte not named.
     pub fn report(&self) -> bool {
         let mut good = true;
         println!("compared:");
@@ -199,6 +206,7 @@ impl Tally {
         let builder = "hand-made places of the builder that missed one clause alone";
         good &= each_met(builder, &builder::CLAUSES, &self.builder_missed, &[]);
         good &= each_met("refusals explained", &EXPLAINED, &self.explained, &[]);
+        good &= each_met("bytes that 9 named", &BYTES, &self.pointed, &[]);
         good
     }
 }

@@ -23,13 +23,21 @@ pub fn list(stream: &[u8]) -> List {
     }
 }
 
-/// The unit that is listed after these, or none if the list is whole, or the fault.
-fn following(stream: &[u8], units: &[Unit]) -> Result<Option<Unit>, Refusal> {
-    let position = match units.last() {
-        None => return unit_at(stream, 0, stream.len() as u64, Around::Root).map(Some),
+/// Where the unit after these stands or would stand.
+pub fn position(units: &[Unit]) -> u64 {
+    match units.last() {
+        None => 0,
         Some(last) if opens(last.id) => last.own,
         Some(last) => last.end,
-    };
+    }
+}
+
+/// The unit that is listed after these, or none if the list is whole, or the fault.
+fn following(stream: &[u8], units: &[Unit]) -> Result<Option<Unit>, Refusal> {
+    let position = position(units);
+    if units.is_empty() {
+        return unit_at(stream, position, stream.len() as u64, Around::Root).map(Some);
+    }
     let outer = |index: &usize| opens(units[*index].id);
     let closing = |index: &usize| units[*index].end == position;
     for index in (0..units.len()).rev().filter(outer).filter(closing) {

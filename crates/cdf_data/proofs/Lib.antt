@@ -1,2 +1,4 @@
 pub mod Names
 pub mod Taken
+pub mod Pointing
+pub mod Proved

@@ -21,7 +21,7 @@ use Rattle.cdf_judge.specs.declared.Body.{Body}
 use Rattle.cdf_judge.specs.declared.Body.the-variants.{Action, Data, Whole}
 use Rattle.cdf_judge.specs.declared.Judged.the-variants.{Fault, Found}
 use Rattle.cdf_table.proofs.Bools.{both, past}
-use Rattle.cdf_data.proofs.Taken.{taken-fits}
+use Rattle.cdf_data.proofs.Taken.{taken-fits, broken-fits}
 
 pub record Placed (l : Layout) (root : Bool) (state : ℕ) (s : List ℕ) (id action own len next : ℕ) : Type 0 where
   pub mark : marked l s ≡ true
@@ -95,6 +95,15 @@ headed l root s id action len e0 =
     stop : (n : ℕ) → Stop n ≡ Prefix id action len → ⊥
     stop n e = let z : _≡_ {A = ℕ} 0 1 = cc in omega arith
 
+pub offends : (id action : ℕ) (t : List ℕ) (k : ℕ) → bodyOf id action t ≡ Data k → ownData id t ≡ Broken k
+unfolding bodyOf dataBody
+offends id action t k e =
+    own (ownData id t) (past (not (actionAllowed id action)) Action _ (λ e. let z : _≡_ {A = ℕ} 0 1 = cc in omega arith) e .1)
+  where
+    own : (x : Own) → dataBody x ≡ Data k → x ≡ Broken k
+    own (Taken j) e = let z : _≡_ {A = ℕ} 0 1 = cc in absurd (omega arith)
+    own (Broken j) e = cc
+
 held : (id action : ℕ) (t : List ℕ) (k : ℕ) → bodyOf id action t ≡ Whole k →
     (actionAllowed id action ≡ true) × (ownData id t ≡ Taken k)
 unfolding bodyOf dataBody
@@ -108,6 +117,9 @@ held id action t k e =
 
 pub body-fits : (id action : ℕ) (t : List ℕ) (k : ℕ) → bodyOf id action t ≡ Whole k → k ≤ length t
 body-fits id action t k e = taken-fits id t k (held id action t k e .1)
+
+pub fault-fits : (id action : ℕ) (t : List ℕ) (k : ℕ) → bodyOf id action t ≡ Data k → k ≤ length t
+fault-fits id action t k e = broken-fits id t k (offends id action t k e)
 
 module _ (l : Layout) (root : Bool) (state : ℕ) (s : List ℕ) where
   found : (id action len k : ℕ) → Headed l root s id action len → (admits root state id ≡ 0 → ⊥) →

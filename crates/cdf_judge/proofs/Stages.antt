@@ -11,17 +11,17 @@ use Rattle.cdf_prefix.specs.Layout.{Layout, prefixOf}
 use Rattle.cdf_table.specs.States.{admits, rootKind, nothing}
 use Rattle.cdf_table.specs.Ids.{member, stream, erGroup, fileGroup, actionAllowed}
 use Rattle.cdf_data.specs.Data.{ownData}
-use Rattle.cdf_data.specs.declared.Own.the-variants.{Taken}
+use Rattle.cdf_data.specs.declared.Own.the-variants.{Taken, Broken}
 use Rattle.cdf_prefix.specs.Rules.{headOf}
 use Rattle.cdf_judge.specs.Judge.{bodyOf, dataBody, foundBy, judgeHead, judgeBy, judgeOf}
 use Rattle.cdf_prefix.specs.declared.Header.{Header}
 use Rattle.cdf_prefix.specs.declared.Header.the-variants.{Stop, Prefix}
 use Rattle.cdf_judge.specs.declared.Body.{Body}
-use Rattle.cdf_judge.specs.declared.Body.the-variants.{Action, Whole}
+use Rattle.cdf_judge.specs.declared.Body.the-variants.{Action, Data, Whole}
 use Rattle.cdf_judge.specs.declared.Judged.the-variants.{Fault, Found}
-use Rattle.cdf_judge.proofs.Placed.{headed}
+use Rattle.cdf_judge.proofs.Placed.{headed, offends}
 use Rattle.cdf_table.proofs.Match.{each, among}
-use Rattle.cdf_table.proofs.Rows.{admits-root, root-opens}
+use Rattle.cdf_table.proofs.Rows.{admits-root, root-kind, root-opens}
 
 -- h is what the prefix is found to say.
 module _ (l : Layout) (root : Bool) (s : List ℕ) (h : Header) (head : h ≡ headOf l root s) where
@@ -65,6 +65,15 @@ root-is id e =
       root stream (λ a. or-false (eqb a 0)) (λ t. refl),
       (root erGroup (λ a. or-false (eqb a 0)) (λ t. refl), (root fileGroup (λ a. or-false (eqb a 0)) (λ t. refl), tt)),
     ) id (among kinds id id (subst T (sym e) tt) refl)
+
+-- So no byte of a root's own data offends: a unit of which one does is nested.
+pub root-whole : (root : Bool) (state id action : ℕ) (t : List ℕ) {k : ℕ} → (admits root state id ≡ 0 → ⊥) → bodyOf id action t ≡ Data k →
+    root ≡ false
+root-whole false state id action t some e = refl
+root-whole true state id action t {k} some e =
+    let z : Taken 0 ≡ Broken k = sym (root-is id (root-kind state id some) .own t) ∙ offends id action t k e in
+    let z : _≡_ {A = ℕ} 0 1 = cc in
+    absurd (omega arith)
 
 module _ (l : Layout) (s : List ℕ) (h : Header) (head : h ≡ headOf l true s) {id action len : ℕ} (e : h ≡ Prefix id action len) where
   pub root-other : rootKind id ≡ false → Fault 7 0 ≡ judgeOf l true 0 s

@@ -28,9 +28,10 @@ unfoldable pub bodyOf : ℕ → ℕ → List ℕ → Body
 unfolding actionAllowed dataBody ownData
 bodyOf id action s = cond (not (actionAllowed id action)) Action (dataBody (ownData id s))
 
+-- 9 alone is told at the byte that offends (02, b); every other rule at the unit's start.
 unfoldable pub foundBy : Layout → ℕ → ℕ → ℕ → ℕ → Body → Judged
 foundBy l id action len next Action = Fault 8 0
-foundBy l id action len next (Data k) = Fault 9 0
+foundBy l id action len next (Data k) = Fault 9 (prefixOf l + k)
 foundBy l id action len next (Whole k) = Found id action (prefixOf l + k) len next
 
 -- 7: not admitted here, between the two. `admitted` tells the state of the enclosing unit after a child of an id, or 0.

@@ -75,10 +75,13 @@ pub fn judge(edition: Edition, state: usize, s: &[u8]) -> Judged
                     number: 8,
                     offset: 0,
                 },
-                Body::Data(_) => Judged::Fault {
-                    number: 9,
-                    offset: 0,
-                },
+                Body::Data(k) => {
+                    let bad = p + k;
+                    Judged::Fault {
+                        number: 9,
+                        offset: bad,
+                    }
+                }
                 Body::Whole(k) => {
                     let own = p + k;
                     Judged::Found {

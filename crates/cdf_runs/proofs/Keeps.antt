@@ -12,7 +12,7 @@ use Rattle.cdf_prefix.specs.Layout.{Layout}
 use Rattle.cdf_judge.specs.Judge.{judgeOf}
 use Rattle.cdf_judge.specs.declared.Judged.{Judged}
 use Rattle.cdf_judge.specs.declared.Judged.the-variants.{Fault, Found}
-use Rattle.cdf_judge.proofs.Faults.{OfJudged, of-judge}
+use Rattle.cdf_judge.proofs.Faults.{told}
 use Rattle.cdf_judge.proofs.Placed.{Placed, placed}
 use Rattle.cdf_units.specs.Stack.{Closing, incomplete, left, close, Step, done, refused, found, entered, withState, stepIn, step}
 use Rattle.cdf_units.specs.declared.Open.{Open}
@@ -36,11 +36,11 @@ module _ (l : Layout) (s : List ℕ) where
       Enters l (length s) (unitAt pos id action own len) (around next)) →
       Keeps (entered pos around (judgeOf l root state t))
   unfolding entered
-  entered-keeps pos around root state t enters = go (judgeOf l root state t) refl (of-judge l root state t)
+  entered-keeps pos around root state t enters = go (judgeOf l root state t) refl
     where
-      go : (j : Judged) → judgeOf l root state t ≡ j → OfJudged (length t) j → Keeps (entered pos around j)
-      go (Fault n k) e f = λ z. omega arith
-      go (Found id action own len next) e f =
+      go : (j : Judged) → judgeOf l root state t ≡ j → Keeps (entered pos around j)
+      go (Fault n k) e = λ z. omega (arith, told l root t state e .low)
+      go (Found id action own len next) e =
           enters-fit l (length s) (unitAt pos id action own len) (around next) (enters id action own len next (placed l root state t e))
 
   -- A unit that the judge passes in what the innermost unit has left may be entered,

@@ -146,7 +146,7 @@ fn say_rule(s: &[u8], number: usize, offset: usize, depth: usize) {
             say_refused(s, offset);
             say(b".\n");
         }
-        9 => say(b"What this unit says itself, a name, a value or a number, breaks its rule.\n"),
+        9 => say(b"This unit's own name, value or number breaks its rule, first at this byte.\n"),
         _ => say(b"This unit ends before it is complete.\n"),
     }
 }

@@ -5,6 +5,7 @@ pub mod Entering
 pub mod Agreement
 pub mod Few
 pub mod Fuel
+pub mod Ending
 pub mod Numbered
 pub mod Depth
 pub mod Stepping

@@ -7,7 +7,7 @@ use Rattle.cdf_units.specs.Claims.{Claims}
 use Rattle.cdf_units.proofs.Fuel.{finishes}
 use Rattle.cdf_units.proofs.Few.{few}
 use Rattle.cdf_units.proofs.Depth.{shallow}
-use Rattle.cdf_units.proofs.Numbered.{numbered}
+use Rattle.cdf_units.proofs.Numbered.{numbered, pointed}
 
 samples-hold : allHold samples ≡ true
 unfolding allHold
@@ -20,6 +20,7 @@ proved = record {
   finishes = λ l s. finishes l s true 0;
   finishes-in = λ l state s. finishes l s false state;
   numbered = λ l s. numbered l s true 0;
+  pointed = λ l s. pointed l s;
   few = λ l s. few l s true 0;
   shallow = λ l s k. shallow l s true 0 k;
 }

@@ -44,7 +44,7 @@ samples =
     ∷ sample (set k2 9 0x17) 7 29
     ∷ sample (set k2 1 0xf0) 4 0
     ∷ sample (set k2 33 0) 8 29
-    ∷ sample (set k2 13 0x31) 9 6
+    ∷ sample (set k2 13 0x31) 9 13
     ∷ sample k12 0 2
     ∷ []
 

@@ -1,7 +1,7 @@
 -- What the tool tells, by how the unit list ends.
 use Prim.Native.Nat.{ℕ, _-_, _≤_}
 use mathlib.Core.Path.{_≡_, refl, ap, sym, _∙_}
-use mathlib.Core.Bool.{true, false}
+use mathlib.Core.Bool.{Bool, true, false}
 use mathlib.Core.List.{List, [], _∷_, map, reverse}
 use native.Mathlib.Omega.{arith}
 use lib.ListN.{length, take, drop, length-map, length-reverse}
@@ -11,7 +11,7 @@ use Rattle.cdf_prefix.specs.Layout.{Layout}
 use Rattle.cdf_judge.specs.Judge.{judgeOf}
 use Rattle.cdf_judge.specs.declared.Judged.{Judged}
 use Rattle.cdf_judge.specs.declared.Judged.the-variants.{Fault, Found}
-use Rattle.cdf_judge.proofs.Faults.{OfJudged, of-judge}
+use Rattle.cdf_judge.proofs.Faults.{told as fault-told}
 use Rattle.cdf_table.proofs.Bools.{both}
 use Rattle.cdf_units.specs.Units.{after, End, unfinished, ended, fault, listing, stateOf}
 use Rattle.cdf_units.specs.Check.{answerOf, answer, checkOf}
@@ -119,10 +119,14 @@ module _ (l : Layout) (s : List ℕ) where
       rw (why-after l s [] none, f .2) (refl, refl)
 
   -- Number 10 comes of closing alone.
-  judged-never : (pos at : ℕ) (around : ℕ → List Open) (m : ℕ) (j : Judged) → OfJudged m j → entered pos around j ≡ refused 10 at → ⊥
+  judged-never : (pos at : ℕ) (around : ℕ → List Open) (root : Bool) (state : ℕ) (t : List ℕ) →
+      entered pos around (judgeOf l root state t) ≡ refused 10 at → ⊥
   unfolding entered
-  judged-never pos at around m (Fault n k) p e = let z : n ≡ 10 = cc in omega (arith, p .0)
-  judged-never pos at around m (Found id action own len state) p e = let z : _≡_ {A = ℕ} 0 1 = cc in omega arith
+  judged-never pos at around root state t e = go (judgeOf l root state t) refl e
+    where
+      go : (j : Judged) → judgeOf l root state t ≡ j → entered pos around j ≡ refused 10 at → ⊥
+      go (Fault n k) q e = let z : n ≡ 10 = cc in omega (arith, fault-told l root t state q .high)
+      go (Found id action own len next) q e = let z : _≡_ {A = ℕ} 0 1 = cc in omega arith
 
   closing-ten : (os : List Open) (pos at : ℕ) → step l s os pos ≡ refused 10 at → Lacks (unclosed os pos)
   unfolding step stepIn
@@ -133,7 +137,7 @@ module _ (l : Layout) (s : List ℕ) where
       go (left []) q e = let z : _≡_ {A = ℕ} 0 1 = cc in absurd (omega arith)
       go (left (o ∷ rest)) q e =
           let t = take (o .end - pos) (drop pos s) in
-          absurd (judged-never pos at (λ state. withState o state ∷ rest) (length t) (judgeOf l false (o .state) t) (of-judge l false (o .state) t) e)
+          absurd (judged-never pos at (λ state. withState o state ∷ rest) false (o .state) t e)
 
   -- The innermost of the open units, where it is incomplete, admits something.
   lacking-ids : (us ws : List Unit) → States (map (openOf us) ws) → Lacks (map (openOf us) ws) → admittedBy us ws ≡ [] → ⊥
@@ -145,7 +149,7 @@ module _ (l : Layout) (s : List ℕ) where
       incomplete-admits (stateOf us w) (both (isState (stateOf us w)) _ h .0) (rw same (k .lacks)) none
 
   ten-from : (before : List Unit) (p : ReaderPlace) (at : ℕ) → Stands l s before p (refused 10 at) → admittedBy before (openAround before) ≡ [] → ⊥
-  ten-from [] p at h none = judged-never 0 at (λ state. []) (length s) (judgeOf l true 0 s) (of-judge l true 0 s) (sym (h .1))
+  ten-from [] p at h none = judged-never 0 at (λ state. []) true 0 s (sym (h .1))
   ten-from (u ∷ us) p at h none =
       let same = around-units u us p (h .0) in
       lacking-ids (u ∷ us) (openAround (u ∷ us))

@@ -7,7 +7,7 @@ use lib.ListN.{length-take}
 use Rattle.cdf_table.proofs.Rows.{admits-nested}
 use Rattle.cdf_prefix.specs.Layout.{layoutOf}
 use Rattle.cdf_judge.specs.Judge.{foundBy}
-use Rattle.cdf_judge.proofs.Placed.{body-fits}
+use Rattle.cdf_judge.proofs.Placed.{body-fits, fault-fits}
 use Rattle.cdf_judge.proofs.Stages.{bounds, stopped, refused, admitted}
 use Rattle.cdf_judge.proofs.judge.Statement.{statement}
 use Rattle.cdf_judge.proofs.judge.Tie as tie
@@ -60,11 +60,21 @@ judge-body-requires c κs = search needs
 enum-told : tie.Need-enum-told
 enum-told c = search needs
 
-enum-told-2 : tie.Need-enum-told-2
-enum-told-2 c = search needs
-
 enum-known-k : tie.Need-enum-known-k
 enum-known-k c = search needs
+
+add-bad : tie.Need-add-bad
+add-bad c =
+    let inside = c .before .before .before in
+    let prefixed = inside .before .before in
+    let told = prefixed .before .before .before .before in
+    let read = told .before .before in
+    let few = fault-fits _ _ _ _ (sym (inside .judge-body .ensures) ∙ c .before .k .given .1) in
+    let fit = bounds (layoutOf (read .before .before .args .edition)) _ _ _ (read .head .ensures) (told .id .given .1) in
+    omega (arith, fit, prefixed .prefix .ensures .0, simp length-take at few)
+
+enum-known-k-2 : tie.Need-enum-known-k-2
+enum-known-k-2 c = search needs
 
 add-own : tie.Need-add-own
 add-own c =
@@ -72,7 +82,7 @@ add-own c =
     let prefixed = inside .before .before in
     let told = prefixed .before .before .before .before in
     let read = told .before .before in
-    let few = body-fits _ _ _ _ (sym (inside .judge-body .ensures) ∙ c .before .k .given .1) in
+    let few = body-fits _ _ _ _ (sym (inside .judge-body .ensures) ∙ c .before .k2 .given .1) in
     let fit = bounds (layoutOf (read .before .before .args .edition)) _ _ _ (read .head .ensures) (told .id .given .1) in
     omega (arith, fit, prefixed .prefix .ensures .0, simp length-take at few)
 
@@ -93,13 +103,14 @@ returns-3 c =
 returns-4 : tie.Need-returns-4
 unfolding foundBy
 returns-4 c =
-    let inside = c .before .before in
+    let inside = c .before .before .before in
     let prefixed = inside .before .before in
     let passed = prefixed .before in
     let told = passed .before .before .before in
-    admitted _ _ _ _ (told .before .before .head .ensures) _ (told .id .given .1) _
+    rw (prefixed .prefix .ensures .0)
+    (admitted _ _ _ _ (told .before .before .head .ensures) _ (told .id .given .1) _
     (passed .before .state-after .ensures ∙ sym (admits-nested _ _)) (passed .if1 .left) _ (prefixed .prefix .ensures .0) _
-    (inside .judge-body .ensures) (c .enum-told2 .given .1)
+    (inside .judge-body .ensures) (c .before .k .given .1))
 
 returns-5 : tie.Need-returns-5
 unfolding foundBy
@@ -111,7 +122,7 @@ returns-5 c =
     rw (prefixed .prefix .ensures .0)
     (admitted _ _ _ _ (told .before .before .head .ensures) _ (told .id .given .1) _
     (passed .before .state-after .ensures ∙ sym (admits-nested _ _)) (passed .if1 .left) _ (prefixed .prefix .ensures .0) _
-    (inside .judge-body .ensures) (c .before .k .given .1))
+    (inside .judge-body .ensures) (c .before .k2 .given .1))
 
 pub judge-spec : {M : Type 1} → statement M
 judge-spec =
@@ -128,8 +139,9 @@ judge-spec =
     part-judge-body-end
     judge-body-requires
     enum-told
-    enum-told-2
     enum-known-k
+    add-bad
+    enum-known-k-2
     add-own
     returns-2
     returns-3
