@@ -51,8 +51,8 @@ uint64_t cdf_check(const uint8_t *stream, size_t length, uint64_t answer[1]);
 #define CDF_EXPLAIN_CHOICES 10  /* how many ids the innermost of them admits there; where none is open, how many a root may have */
 #define CDF_EXPLAIN_IDS 11      /* these ids, rising: fourteen numbers */
 
-/* Returns the number of cdf_check. Beside CDF_INCOMPLETE the incomplete unit is the innermost open one, and the ids are those that it
- * could still have taken; there is at least one. 0 and 3 to 10. */
+/* Returns the number of cdf_check. Beside CDF_INCOMPLETE the last open unit is the one that lacks something, and the ids are those
+ * that it could still have had; there is at least one. 0 and 3 to 10. */
 uint64_t cdf_explain(const uint8_t *stream, size_t length, uint64_t answer[25]);
 
 /* The reader keeps nothing between calls. All it knows is in a place, 20 numbers that the caller holds; copy it to come back
@@ -66,34 +66,36 @@ uint64_t cdf_explain(const uint8_t *stream, size_t length, uint64_t answer[25]);
 #define CDF_PLACE_FLAG 19       /* not 0: the last unit may still be skipped or taken */
 
 /* The states of an open unit: what it is, and what it has had. These numbers may be others in another version. */
-#define CDF_STATE_STREAM_NEW 1       /* an EDMM stream that has had nothing */
-#define CDF_STATE_STREAM_CALL 2      /* whose last unit was a call */
-#define CDF_STATE_STREAM_GROUP 3     /* whose last unit was a group */
-#define CDF_STATE_STREAM_SKIPPED 4   /* that was skipped */
-#define CDF_STATE_ER_NEW 5           /* an E/R data group that has had nothing */
-#define CDF_STATE_ER_DATA 6          /* that has had templates or relations */
-#define CDF_STATE_ER_SKIPPED 7       /* that was skipped or taken */
-#define CDF_STATE_FILE_NEW 8         /* a file data group that has had nothing */
-#define CDF_STATE_FILE_LINES 9       /* that has had lines */
-#define CDF_STATE_FILE_SKIPPED 10    /* that was skipped or taken */
-#define CDF_STATE_CALL_NEW 11        /* a function call that has had nothing */
-#define CDF_STATE_CALL_PARAMETERS 12 /* that has had parameters */
-#define CDF_STATE_CALL_SKIPPED 13    /* that was skipped */
-#define CDF_STATE_TEMPLATE_NEW 14    /* a template that has had nothing */
-#define CDF_STATE_TEMPLATE_KEYS 15   /* that has had keys */
-#define CDF_STATE_TEMPLATE_FIELDS 16 /* that has had keys and fields */
-#define CDF_STATE_TEMPLATE_SKIPPED 17/* that was skipped */
-#define CDF_STATE_RELATION_NEW 18    /* a relation that has had nothing */
-#define CDF_STATE_RELATION_SOURCE 19 /* that has had its source */
-#define CDF_STATE_RELATION_TARGET 20 /* that has had source and target */
-#define CDF_STATE_RELATION_SKIPPED 21/* that was skipped */
-#define CDF_STATE_ORDERED_NEW 22     /* an ordered relation that has had nothing */
-#define CDF_STATE_ORDERED_SOURCE 23  /* that has had its source */
-#define CDF_STATE_ORDERED_TARGET 24  /* that has had source and target */
-#define CDF_STATE_ORDERED_SKIPPED 25 /* that was skipped */
-#define CDF_STATE_ENTITY_NEW 26      /* an entity key that has had nothing */
-#define CDF_STATE_ENTITY_KEYS 27     /* that has had keys */
-#define CDF_STATE_ENTITY_SKIPPED 28  /* that was skipped */
+#define CDF_STATE_STREAM_NEW 1          /* an EDMM stream that has had nothing */
+#define CDF_STATE_STREAM_CALL 2         /* whose last unit was a call */
+#define CDF_STATE_STREAM_GROUP 3        /* whose last unit was a group */
+#define CDF_STATE_STREAM_SKIPPED 4      /* that was skipped */
+#define CDF_STATE_ER_NEW 5              /* an E/R data group that has had nothing */
+#define CDF_STATE_ER_DATA 6             /* that has had templates or relations */
+#define CDF_STATE_ER_SKIPPED 7          /* that was skipped or taken */
+#define CDF_STATE_FILE_NEW 8            /* a file data group that has had nothing */
+#define CDF_STATE_FILE_LINES 9          /* that has had lines */
+#define CDF_STATE_FILE_SKIPPED 10       /* that was skipped or taken */
+#define CDF_STATE_CALL_NEW 11           /* a function call that has had nothing */
+#define CDF_STATE_CALL_PARAMETERS 12    /* that has had parameters */
+#define CDF_STATE_CALL_SKIPPED 13       /* that was skipped */
+#define CDF_STATE_TEMPLATE_NEW 14       /* a template that has had nothing */
+#define CDF_STATE_TEMPLATE_TEMPORARY 15 /* that has had its temporary key */
+#define CDF_STATE_TEMPLATE_KEYS 16      /* that has had template keys */
+#define CDF_STATE_TEMPLATE_FIELDS 17    /* that has had a key or keys, and fields */
+#define CDF_STATE_TEMPLATE_SKIPPED 18   /* that was skipped */
+#define CDF_STATE_RELATION_NEW 19       /* a relation that has had nothing */
+#define CDF_STATE_RELATION_SOURCE 20    /* that has had its source */
+#define CDF_STATE_RELATION_TARGET 21    /* that has had source and target */
+#define CDF_STATE_RELATION_SKIPPED 22   /* that was skipped */
+#define CDF_STATE_ORDERED_NEW 23        /* an ordered relation that has had nothing */
+#define CDF_STATE_ORDERED_SOURCE 24     /* that has had its source */
+#define CDF_STATE_ORDERED_TARGET 25     /* that has had source and target */
+#define CDF_STATE_ORDERED_SKIPPED 26    /* that was skipped */
+#define CDF_STATE_ENTITY_NEW 27         /* an entity key that has had nothing */
+#define CDF_STATE_ENTITY_TEMPORARY 28   /* that has had its temporary key */
+#define CDF_STATE_ENTITY_KEYS 29        /* that has had template keys */
+#define CDF_STATE_ENTITY_SKIPPED 30     /* that was skipped */
 
 /* What a call answers beside its number: 8 numbers, zeros where there is nothing to say. They are written at each call. */
 #define CDF_ANSWER_NUMBERS 8

@@ -30,7 +30,7 @@ def number(n):
 
 
 def key(k):
-    """A person has a temporary key, which is a number, or a template key, which is any text; never both."""
+    """A temporary key, which is a number, or a template key, which is any text. A person has keys of one kind."""
     return unit(TEMPORARY_KEY, NONE, number(k)) if isinstance(k, int) else unit(TEMPLATE_KEY, NONE, k.encode())
 
 
@@ -44,7 +44,9 @@ def field_by_letters(title, text):
 
 
 def person(k, surname, given, field=field):
-    return unit(TEMPLATE, CREATE, name("PERSON"), key(k), field("SURNAME", surname), field("GIVEN", given))
+    """`k` is the person's key, or a list of keys."""
+    keys = k if isinstance(k, list) else [k]
+    return unit(TEMPLATE, CREATE, name("PERSON"), *map(key, keys), field("SURNAME", surname), field("GIVEN", given))
 
 
 def entity(k):
@@ -71,8 +73,8 @@ RELATIONS = [
 ]
 
 
-def group(field=field):
-    return unit(ER_GROUP, NONE, *(person(*p, field=field) for p in PEOPLE), *RELATIONS)
+def group(field=field, people=PEOPLE):
+    return unit(ER_GROUP, NONE, *(person(*p, field=field) for p in people), *RELATIONS)
 
 
 def call():
@@ -84,6 +86,8 @@ def files():
     family, family_call = group(), unit(STREAM, NONE, call(), group())
     # The old fault: a surname grows by five bytes, and the length of its field alone is corrected.
     married = family.replace(field("SURNAME", "Öberg"), field("SURNAME", "Öberg-Lind"), 1)
+    # As streams once could be: a stored person has kept the temporary key that he had before.
+    mixed = [([4, k], *names) if k == "P-1874" else (k, *names) for k, *names in PEOPLE]
     return {
         "family.cdf": family,
         "family-call.cdf": family_call,
@@ -92,6 +96,7 @@ def files():
         "letters-counted.cdf": group(field_by_letters),
         "inner-length-only.cdf": married,
         "second-group.cdf": unit(STREAM, NONE, call(), group(), group()),
+        "mixed-keys.cdf": group(people=mixed),
     }
 
 

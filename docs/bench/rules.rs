@@ -1,4 +1,4 @@
-//! The rules of document 01, first edition, in plain Rust: what the plain codes share.
+//! The rules of document 01, first edition, with requests b) and c) of 02, in plain Rust: what the plain codes share.
 
 /// A unit as it is handed out. `own` is where its name or its numbers end, or its prefix if it has none of these.
 #[derive(Clone, Copy, Debug, PartialEq, Eq)]
@@ -44,13 +44,14 @@ impl Progress {
             1 => id == 2 || (self.last == 2 && matches!(id, 4 | 13)),
             2 => id == 3,
             4 => matches!(id, 5 | 9 | 10),
-            5 => match id {
-                6 | 7 => self.last != 8,
-                8 => self.last != 0,
+            // A temporary key is the only one; a template key follows none but its like.
+            5 | 11 => match id {
+                6 => self.last == 0,
+                7 => matches!(self.last, 0 | 7),
+                8 => self.id == 5 && self.last != 0,
                 _ => false,
             },
             9 | 10 => self.nested < 2 && matches!(id, 11 | 12),
-            11 => matches!(id, 6 | 7),
             13 => id == 14,
             _ => false,
         }

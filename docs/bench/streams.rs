@@ -2,7 +2,7 @@
 
 use crate::codes::Case;
 use crate::compare::case;
-use crate::rules::Unit;
+use crate::rules::{opens, Unit};
 
 /// The random numbers are the same in every run (SplitMix64).
 pub struct Random(u64);
@@ -50,6 +50,7 @@ fn name(random: &mut Random) -> Vec<u8> {
     [&[text.len() as u8], text.as_bytes()].concat()
 }
 
+/// A key of either kind. No unit of these streams has two.
 fn key(random: &mut Random) -> Vec<u8> {
     if random.below(2) == 0 {
         unit(6, 0, &random.bytes(4), &[])
@@ -141,9 +142,10 @@ pub fn sets() -> Vec<Set> {
 /// A copy of a stream with these units, damaged in one or two places so that every refusal is met.
 pub fn damaged(stream: &[u8], units: &[Unit], random: &mut Random) -> Vec<u8> {
     let mut bytes = stream.to_vec();
+    let keys: Vec<Unit> = units.iter().filter(|unit| matches!(unit.id, 6 | 7)).copied().collect();
     for _ in 0..random.between(1, 2) {
         let at = random.pick(units);
-        match random.below(8) {
+        match random.below(9) {
             0 => {
                 let place = random.below(bytes.len());
                 bytes[place] = random.below(256) as u8;
@@ -159,6 +161,7 @@ pub fn damaged(stream: &[u8], units: &[Unit], random: &mut Random) -> Vec<u8> {
             5 => set_length(&mut bytes, at.start, (at.end - at.start + random.below(15)).saturating_sub(7)),
             // Ends with its own data: incomplete, or without its value.
             6 => set_length(&mut bytes, at.start, at.own - at.start),
+            7 if !keys.is_empty() => return one_key_more(stream, units, &random.pick(&keys), random),
             // Cut short inside this unit, with the root's length mended or not.
             _ => {
                 let length = random.between(at.start, at.end);
@@ -173,12 +176,23 @@ pub fn damaged(stream: &[u8], units: &[Unit], random: &mut Random) -> Vec<u8> {
     bytes
 }
 
+/// A copy with one more key, of either kind, behind this one; the lengths of the units around it are mended.
+fn one_key_more(stream: &[u8], units: &[Unit], key: &Unit, random: &mut Random) -> Vec<u8> {
+    let more = unit(random.pick(&[6, 7]), 0, &random.bytes(4), &[]);
+    let mut bytes = [&stream[..key.end], &more, &stream[key.end..]].concat();
+    for around in units.iter().filter(|unit| opens(unit.id) && unit.start < key.start && key.end <= unit.end) {
+        set_length(&mut bytes, around.start, around.end - around.start + more.len());
+    }
+    bytes
+}
+
 fn set_length(bytes: &mut [u8], start: usize, length: usize) {
     bytes[start + 2..start + 4].copy_from_slice(&(length as u16).to_be_bytes());
 }
 
-/// A sample of document 01, and the check's answer, for K11 by request b of document 02: 0 with the count of units, or the refusal and its offset. Of a refused
-/// one, by request a of document 02, id and start of the units open there and the ids that may stand there.
+/// A sample of document 01, and the check's answer, for K11 by request b of document 02: 0 with the count of units, or the
+/// refusal and its offset. Of a refused one, by requests a and c of document 02, id and start of the units open there and the
+/// ids that may stand there.
 pub struct Sample {
     pub name: &'static str,
     pub bytes: Vec<u8>,
@@ -209,7 +223,7 @@ pub fn samples() -> [Sample; 12] {
         changed("K7", K1, 9, 0x09, (3, 15), &[(13, 0)], &[14]),
         changed("K8", K2, 9, 0x17, (7, 29), &[(4, 0)], &[5, 9, 10]),
         changed("K9", K2, 1, 0xF0, (4, 0), &[], ROOTS),
-        changed("K10", K2, 33, 0x00, (8, 29), &[(4, 0), (5, 6)], &[6, 7, 8]),
+        changed("K10", K2, 33, 0x00, (8, 29), &[(4, 0), (5, 6)], &[8]),
         changed("K11", K2, 13, 0x31, (9, 13), &[(4, 0)], &[5, 9, 10]),
         sample("K12", K12, (0, 2), &[], &[]),
     ]

@@ -1,6 +1,8 @@
 //! The stored cases of the builder.
 
-use crate::build_places::{hand_made, FULL_FILE, GROUP_IN_STREAM, HUGE, NEARLY_FULL_FILE, PERSON, STREAM_NEARLY_FULL};
+use crate::build_places::{
+    hand_made, FULL_FILE, FULL_PERSON, GROUP_IN_STREAM, HUGE, NEARLY_FULL_FILE, PERSON, STREAM_NEARLY_FULL,
+};
 use crate::build_run::{run, BuildCase, Step, UNWRITTEN};
 use crate::builder::{requests, Request};
 use crate::cases::{complete, home, joined, nested, own, unit, A, N, STATES};
@@ -103,6 +105,8 @@ fn wholes() -> Vec<Whole> {
         Finish,
     ];
     let with_refusals = steps(K2).iter().flat_map(|step| more(std::slice::from_ref(step), &refused)).collect();
+    let too_many = [right(6), right(7), with_action(6, 1), with_data(7, &[b'x'; 4097])];
+    let with_keys_too_many = [&steps(K2)[..3], &too_many, &steps(K2)[3..], &too_many].concat();
     let both = unit(1, &[&call, &group, &call, &file]);
     let (add_group, add_file) = (Add(group), Add(file));
     let added =
@@ -123,6 +127,7 @@ fn wholes() -> Vec<Whole> {
         whole("full-one-more", &fifteen, more(&full_steps[..16], &[with_data(14, &[b'x'; 3994])]), 4000),
         whole("full-added", &unit(1, &[&call, &full_group]), more(&called(), &[Add(full_group.clone())]), 0),
         whole("k2-with-refusals", K2, with_refusals, 8),
+        whole("k2-with-keys-too-many", K2, with_keys_too_many, 8),
         whole(
             "on-after-finish",
             &unit(13, &[&complete(14), &unit(14, &[b"x"])]),
@@ -131,6 +136,36 @@ fn wholes() -> Vec<Whole> {
         ),
         whole("added", &both, more(&called(), &added), 8),
         whole("singly", &both, steps(&both), 8),
+    ]
+}
+
+/// Keys too many, in a template and in an entity key that is the source of a relation without a target; and what is owed,
+/// worked out by hand.
+fn too_many() -> Vec<(&'static str, usize, Vec<Step>, &'static str)> {
+    let built = |ids: &[u8]| more(&[Start(4)], &ids.iter().map(|id| right(*id)).collect::<Vec<_>>());
+    let finished = |ids: &[u8]| more(&built(ids), &[Finish]);
+    // Another rule is broken as well, and the first in the label is the one met.
+    let acting = [with_action(6, 1), with_action(7, 1), Finish];
+    let wrong = [with_data(6, &N[..3]), with_data(7, &[b'x'; 4097]), Finish];
+    let from_full = vec![Step::Place(FULL_PERSON), right(6), right(7), right(8), Finish];
+    vec![
+        ("second-temporary-key", 64, finished(&[5, 6, 6, 8, 6]), "S0 N0 N0 N7 N0 N7 F0 L32"),
+        ("template-key-after-temporary", 64, finished(&[5, 6, 7, 8, 7]), "S0 N0 N0 N7 N0 N7 F0 L32"),
+        ("temporary-after-template-key", 64, finished(&[5, 7, 6, 7, 6, 8, 6]), "S0 N0 N0 N7 N0 N7 N0 N7 F0 L34"),
+        ("entity-second-temporary-key", 64, finished(&[9, 11, 6, 6, 12, 6]), "S0 N0 N0 N0 N7 N0 N7 F0 L44"),
+        ("entity-template-key-after-temporary", 64, finished(&[9, 11, 6, 7, 12, 7]), "S0 N0 N0 N0 N7 N0 N7 F0 L44"),
+        (
+            "entity-temporary-after-template-key",
+            64,
+            finished(&[9, 11, 7, 6, 7, 12, 6]),
+            "S0 N0 N0 N0 N7 N0 N0 N7 F0 L46",
+        ),
+        ("key-both-7-8", 64, more(&built(&[5, 6]), &acting), "S0 N0 N0 N7 N7 F0 L24"),
+        ("entity-key-both-7-8", 64, more(&built(&[9, 11, 6]), &acting), "S0 N0 N0 N0 N7 N7 F10 L0"),
+        ("key-both-7-9", 64, more(&built(&[5, 6]), &wrong), "S0 N0 N0 N7 N7 F0 L24"),
+        ("entity-key-both-7-9", 64, more(&built(&[9, 11, 6]), &wrong), "S0 N0 N0 N0 N7 N7 F10 L0"),
+        ("key-both-7-12", 24, finished(&[5, 6, 6, 7, 8]), "S0 N0 N0 N7 N7 N12 F0 L24"),
+        ("key-both-7-13", 65_536, from_full, "N7 N7 N13 F0 L65535"),
     ]
 }
 
@@ -246,12 +281,18 @@ pub fn build_cases() -> Vec<BuildCase> {
         ("call", K12.to_vec()),
         ("template", complete(5)),
         ("wrong", wrong_group()),
+        ("mixed-keys", nested(&[5, 6], &complete(7))),
+        ("entity-mixed-keys", nested(&[11, 7], &complete(6))),
         ("byte-more", [&complete(4)[..], b"x"].concat()),
         ("past-limit", [&sixteen_lines(3993)[..], b"x"].concat()),
     ];
     for (label, group) in groups {
         let steps = more(&called(), &[Add(group), Finish]);
         cases.push(BuildCase { label: format!("refused-group.{label}"), size: 64, steps });
+    }
+    for (label, size, steps, owed) in too_many() {
+        assert_eq!(run(size, &steps).words.join(" "), owed, "{label}");
+        cases.push(BuildCase { label: label.to_string(), size, steps });
     }
     let refusals = refusals().into_iter();
     cases.extend(refusals.map(|(label, size, steps)| BuildCase { label: label.to_string(), size, steps }));

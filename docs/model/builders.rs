@@ -3,7 +3,7 @@
 
 use crate::readers::{compare_explain, hex};
 use crate::tally::{Function, Tally};
-use crate::{archive, consistency, places};
+use crate::{archive, consistency, keys, places};
 use cdf_model::builder::{self, Place, Request};
 use cdf_model::numbers::{builder_place, of_builder_place, BuilderNumbers};
 use cdf_model::random::Random;
@@ -71,6 +71,9 @@ impl Buffers {
         let number = archive::build_next(&mut self.archive[..self.n], place, *id, *action, data);
         let owed = builder::next(&mut self.model[..self.n], &builder_place(&before), request);
         let given = || format!("NEXT with id {id}, action {action}, data {}", hex(data));
+        if owed == Err(7) {
+            tally.too_many(Function::BuildNext, &keys::of_builder(&builder_place(&before), request));
+        }
         self.compare(tally, Function::BuildNext, (number, place), (&owed, &before), given)
     }
 
@@ -102,7 +105,9 @@ impl Buffers {
 fn propose(place: &Place, random: &mut Random) -> Request {
     let joins = |id: &u64| place.open.iter().any(|unit| after(unit.id, unit.had, *id).is_some());
     let admitted: Vec<u64> = (1..=14).filter(joins).collect();
+    let takes_keys = place.open.last().is_some_and(|unit| matches!(unit.id, 5 | 11));
     let id = match admitted.is_empty() || random.one_in(6) {
+        _ if takes_keys && random.one_in(8) => random.pick(&[6, 7]),
         true => random.between(1, 14) as u64,
         false => random.pick(&admitted),
     };
@@ -206,7 +211,7 @@ fn compare_hand_made(tally: &mut Tally, buffers: &mut Buffers, real: &BuilderNum
     let (kind, made) = places::builder(real, n as u64, random);
     let model = builder_place(&made);
     tally.count(kind);
-    tally.builder_place(model.missed(n as u64));
+    tally.builder_place(&model, n as u64);
     let mut place = made;
     buffers.finish(tally, &mut place);
     let proposed = propose(&model, random);

@@ -48,7 +48,7 @@ pub fn complete(id: u8) -> Vec<u8> {
 }
 
 /// What a unit may have had, for each that admits others: its id, then the nested ids.
-pub const STATES: [&[u8]; 26] = [
+pub const STATES: [&[u8]; 28] = [
     &[1],
     &[1, 2],
     &[1, 2, 4],
@@ -62,6 +62,7 @@ pub const STATES: [&[u8]; 26] = [
     &[5],
     &[5, 6],
     &[5, 7],
+    &[5, 6, 8],
     &[5, 7, 8],
     &[9],
     &[9, 11],
@@ -72,6 +73,7 @@ pub const STATES: [&[u8]; 26] = [
     &[10, 12],
     &[10, 11, 11],
     &[11],
+    &[11, 6],
     &[11, 7],
     &[13],
     &[13, 14],

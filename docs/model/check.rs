@@ -31,16 +31,17 @@ fn count(stream: &[u8], unit: Unit) -> Result<u64, Refusal> {
     Ok(units)
 }
 
-/// Whether a unit admits a nested one after those that it has had, by the table's last column.
+/// Whether a unit admits a nested one after those that it has had, by the table's last column, and for keys by document
+/// 02, c: a temporary key is the only one, and one of kind 7 has none but its like before it.
 pub fn follows(id: u64, had: &[u64], nested: u64) -> bool {
     match id {
         1 => nested == 2 || (matches!(nested, 4 | 13) && had.last() == Some(&2)),
         2 => nested == 3,
         4 => matches!(nested, 5 | 9 | 10),
         5 if nested == 8 => !had.is_empty(),
-        5 => matches!(nested, 6 | 7) && !had.contains(&8),
+        5 | 11 if nested == 6 => had.is_empty(),
+        5 | 11 if nested == 7 => had.iter().all(|id| *id == 7),
         9 | 10 => matches!(nested, 11 | 12) && had.len() < 2,
-        11 => matches!(nested, 6 | 7),
         _ => id == 13 && nested == 14,
     }
 }

@@ -1,5 +1,6 @@
 //! The model against itself: what document 01 says of whole runs holds of it, by ways that share little code.
 
+use crate::keys;
 use crate::pointed;
 use crate::readers::hex;
 use crate::tally::Tally;
@@ -42,6 +43,11 @@ pub fn stream(tally: &mut Tally, stream: &[u8], tree: Option<&Tree>, random: &mu
     let again = call(Call::Next, stream, &reply.place);
     expect(tally, (again.number, again.offset) == owed, "NEXT after the end", stream);
     explained(tally, stream, &reply.place, random);
+    if answer.is_ok() {
+        expect(tally, keys::of_one_kind(&listed.units), "keys of one kind in each template and entity key", stream);
+        let broken = keys::one_more(stream, &listed.units, random);
+        expect(tally, broken.is_none(), broken.unwrap_or_default(), stream);
+    }
     if let Some(tree) = tree {
         let same = answer.is_ok() && tree.requests() == requests(stream);
         expect(tally, same, "a tree of the grammar and its reading", stream);

@@ -13,7 +13,8 @@ pub struct Explanation {
     pub at: u64,
     /// The open units, from the root inwards.
     pub open: Vec<Unit>,
-    /// What the innermost of them admits, rising.
+    /// The ids that the innermost of them has had, which are not told, and those that it admits, rising.
+    pub had: Vec<u64>,
     pub ids: Vec<u64>,
 }
 
@@ -29,12 +30,13 @@ pub fn explain(stream: &[u8]) -> Explanation {
     let at = if number == 10 { offset } else { position(units) };
     let holds = |index: &usize| units[*index].start <= at && at < units[*index].end;
     let open: Vec<usize> = (0..units.len()).filter(holds).collect();
-    let ids = match open.last() {
-        None => (1..=14).filter(|id| is_root(*id)).collect(),
+    let (had, ids) = match open.last() {
+        None => (vec![], (1..=14).filter(|id| is_root(*id)).collect()),
         Some(&innermost) => {
             let had = had(units, innermost);
-            (1..=14).filter(|id| follows(units[innermost].id, &had, *id)).collect()
+            let ids = (1..=14).filter(|id| follows(units[innermost].id, &had, *id)).collect();
+            (had, ids)
         }
     };
-    Explanation { number, offset, at, open: open.iter().map(|index| units[*index]).collect(), ids }
+    Explanation { number, offset, at, open: open.iter().map(|index| units[*index]).collect(), had, ids }
 }

@@ -1,5 +1,5 @@
-//! A second implementation of document 01, and of requests a) and b) of 02, in plain Rust, written from the documents and
-//! not from the proved code.
+//! A second implementation of document 01, and of requests a) to c) of 02, in plain Rust, written from the documents and not
+//! from the proved code.
 
 pub mod build_cases;
 mod build_places;

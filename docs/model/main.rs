@@ -5,6 +5,7 @@
 mod archive;
 mod builders;
 mod consistency;
+mod keys;
 mod places;
 mod pointed;
 mod readers;
@@ -15,7 +16,7 @@ use cdf_model::check::check;
 use cdf_model::explain::explain;
 use cdf_model::random::Random;
 use cdf_model::rules::Refusal;
-use cdf_model::samples::{samples, POINTED, TOLD};
+use cdf_model::samples::{samples, KEYS, POINTED, TOLD};
 use cdf_model::streams::{damage_bytes, damage_tree, filled, grow, mend_root, noise, redirected, Tree};
 use std::time::{Duration, Instant};
 use tally::Tally;
@@ -98,6 +99,10 @@ fn fixed(tally: &mut Tally) {
     let labelled = |label| &cases.iter().find(|case| case.0 == label).expect(label).1;
     for (label, offset) in POINTED {
         assert_eq!(check(labelled(label)), Err(Refusal { number: 9, offset }), "{label}");
+    }
+    for (label, number, value) in KEYS {
+        let owed = if number == 0 { Ok(value) } else { Err(Refusal { number, offset: value }) };
+        assert_eq!(check(labelled(label)), owed, "{label}");
     }
     for (label, open, ids) in TOLD {
         let told = explain(labelled(label));

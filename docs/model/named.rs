@@ -16,6 +16,11 @@ pub fn named() -> Vec<(&'static str, Vec<u8>)> {
     let [call, parameter, group, template, key, value_key, field, entity, rel_key, file, line] =
         [2, 3, 4, 5, 6, 7, 8, 11, 12, 13, 14].map(complete);
     let short = &line[..5];
+    // A template in a group, and an entity key that is the source of a relation in a group, with these units in it.
+    let person = |nested: &[&[u8]]| unit(4, &[&unit(5, &[A, &nested.concat()])]);
+    let source = |nested: &[&[u8]]| unit(4, &[&unit(9, &[N, &unit(11, &[A, &nested.concat()]), &rel_key])]);
+    let deep = |ends: &[&[u8]]| unit(1, &[&call, &unit(4, &[&unit(9, &[N, &ends.concat()])])]);
+    let (acting, cut) = (|id| changed(&complete(id), 4, &[1]), unit(6, &[&N[..3]]));
     vec![
         ("full", full.clone()),
         ("full-and-one", [&full[..], b"x"].concat()),
@@ -34,8 +39,8 @@ pub fn named() -> Vec<(&'static str, Vec<u8>)> {
         ("second-file", unit(1, &[&call, &file, &file])),
         ("mixed-keys", unit(4, &[&unit(5, &[A, &key, &value_key, &key, &field, &field])])),
         ("key-after-field", unit(4, &[&unit(5, &[A, &key, &field, &value_key, &key])])),
-        ("five-deep", unit(1, &[&call, &unit(4, &[&unit(9, &[N, &entity, &unit(11, &[A, &value_key, &key])])])])),
-        ("five-deep-fault", unit(1, &[&call, &unit(4, &[&unit(9, &[N, &unit(11, &[A, &key, &[0; 6]])])])])),
+        ("five-deep", deep(&[&entity, &unit(11, &[A, &value_key, &value_key])])),
+        ("five-deep-fault", deep(&[&unit(11, &[A, &key, &[0; 6]])])),
         ("no-call", unit(1, &[])),
         ("no-template", unit(4, &[])),
         ("no-line", unit(13, &[])),
@@ -60,6 +65,36 @@ pub fn named() -> Vec<(&'static str, Vec<u8>)> {
         ("both-9-10", unit(4, &[&unit(5, &[b"\x01a"])])),
         ("both-10-3", unit(4, &[&unit(5, &[A]), &[0]])),
         ("both-10-4", unit(4, &[&unit(5, &[A]), &[0; 6]])),
+        // Keys of one kind, and a key too many.
+        ("temporary-key", person(&[&key, &field, &field])),
+        ("template-keys", person(&[&value_key, &value_key, &value_key, &field, &field])),
+        ("entity-temporary-key", source(&[&key])),
+        ("entity-template-keys", source(&[&value_key, &value_key, &value_key])),
+        ("second-temporary-key", person(&[&key, &key, &field])),
+        ("template-key-after-temporary", person(&[&key, &value_key, &field])),
+        ("temporary-after-template-key", person(&[&value_key, &key, &field])),
+        ("temporary-after-template-keys", person(&[&value_key, &value_key, &key])),
+        ("temporary-after-field", person(&[&key, &field, &key])),
+        ("template-key-after-field", person(&[&value_key, &field, &value_key])),
+        ("entity-second-temporary-key", source(&[&key, &key])),
+        ("entity-template-key-after-temporary", source(&[&key, &value_key])),
+        ("entity-temporary-after-template-key", source(&[&value_key, &key])),
+        ("entity-temporary-after-template-keys", source(&[&value_key, &value_key, &key])),
+        ("five-deep-mixed", deep(&[&entity, &unit(11, &[A, &value_key, &key])])),
+        ("five-deep-fault-template-key", deep(&[&unit(11, &[A, &value_key, &[0; 6]])])),
+        // A key too many and another rule, and the first in the label is the one met.
+        ("key-both-3-7", person(&[&key, &key[..5]])),
+        ("key-both-4-7", person(&[&key, &changed(&key, 0, &[0])])),
+        ("key-both-5-7", person(&[&key, &changed(&key, 3, &[11])])),
+        ("key-both-7-8", person(&[&key, &acting(6)])),
+        ("key-both-7-8-template-key", person(&[&key, &acting(7)])),
+        ("key-both-7-8-temporary", person(&[&value_key, &acting(6)])),
+        ("key-both-7-9", person(&[&key, &cut])),
+        ("key-both-7-9-long", person(&[&key, &unit(7, &[&[b'x'; 4097]])])),
+        ("entity-key-both-7-8", source(&[&key, &acting(6)])),
+        ("entity-key-both-7-9", source(&[&key, &cut])),
+        ("key-both-8-7", person(&[&acting(6), &key])),
+        ("key-both-9-7", person(&[&cut, &key])),
         // A 9, and where the byte stands that it names.
         ("byte-no-count", unit(1, &[&unit(2, &[]), &call])),
         ("byte-no-count-at-n", unit(1, &[&call, &unit(2, &[])])),

@@ -10,8 +10,8 @@ pub type ReaderNumbers = [u64; 20];
 pub type BuilderNumbers = [u64; 10];
 pub type ExplanationNumbers = [u64; 25];
 
-/// The states 1 to 28: an id, and what such a unit has had.
-const STATES: [(u64, Had); 28] = [
+/// The states, from 1 on: an id, and what such a unit has had.
+const STATES: [(u64, Had); 30] = [
     (1, Had::Nothing),
     (1, Had::Call),
     (1, Had::Group),
@@ -26,6 +26,7 @@ const STATES: [(u64, Had); 28] = [
     (2, Had::Units),
     (2, Had::Skipped),
     (5, Had::Nothing),
+    (5, Had::Temporary),
     (5, Had::Keys),
     (5, Had::Fields),
     (5, Had::Skipped),
@@ -38,6 +39,7 @@ const STATES: [(u64, Had); 28] = [
     (10, Had::Two),
     (10, Had::Skipped),
     (11, Had::Nothing),
+    (11, Had::Temporary),
     (11, Had::Keys),
     (11, Had::Skipped),
 ];
@@ -45,7 +47,7 @@ const STATES: [(u64, Had); 28] = [
 /// Id 0 where the number is no state.
 fn state(number: u64) -> (u64, Had) {
     match number {
-        1..=28 => STATES[number as usize - 1],
+        1..=30 => STATES[number as usize - 1],
         _ => (0, Had::Nothing),
     }
 }

@@ -31,7 +31,7 @@ fn other_state(old: u64, random: &mut Random) -> u64 {
         2 => old.wrapping_add(2),
         3 => u64::MAX - random.below(3) as u64,
         4 => old.wrapping_add(256),
-        _ => random.below(31) as u64,
+        _ => random.below(33) as u64,
     }
 }
 

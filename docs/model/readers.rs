@@ -2,7 +2,7 @@
 //! places.
 
 use crate::tally::{Function, Tally};
-use crate::{archive, consistency, places, pointed};
+use crate::{archive, consistency, keys, places, pointed};
 use cdf_model::check::{check, listing};
 use cdf_model::explain::explain;
 use cdf_model::numbers::{self, reader_place, ReaderNumbers, CODES};
@@ -26,6 +26,9 @@ pub fn compare_check(tally: &mut Tally, stream: &[u8]) {
         tally.differ("cdf_check", &hex(stream), &one, &other);
     }
     tally.met(Function::Check, owed.0);
+    if owed.0 == 7 {
+        tally.too_many(Function::Check, &keys::of_stream(stream, &explain(stream)));
+    }
 }
 
 /// The number, and every entry of the answer, also those that are not used.
@@ -39,8 +42,10 @@ pub fn compare_explain(tally: &mut Tally, stream: &[u8]) {
     }
     tally.met(Function::Explain, told.number);
     tally.explained(&told);
-    if told.number == 9 {
-        tally.pointed(pointed::which(stream, &told));
+    match told.number {
+        7 => tally.too_many(Function::Explain, &keys::of_stream(stream, &told)),
+        9 => tally.pointed(pointed::which(stream, &told)),
+        _ => {}
     }
 }
 
@@ -62,6 +67,9 @@ pub fn compare_call(tally: &mut Tally, call: Call, stream: &[u8], place: &mut Re
         tally.differ(&format!("{call:?} of the reader"), &given, &one, &other);
     }
     tally.met(Function::from(call), number);
+    if (call, number) == (Call::Next, 7) {
+        tally.too_many(Function::Next, &keys::of_reader(stream, &reader_place(&before)));
+    }
     number
 }
 
@@ -166,7 +174,7 @@ fn compare_hand_made(tally: &mut Tally, stream: &[u8], met: &[ReaderNumbers], ra
     let n = stream.len() as u64;
     let (kind, made) = places::reader(met, n, random);
     tally.count(kind);
-    tally.reader_place(reader_place(&made).missed(n));
+    tally.reader_place(&reader_place(&made), n);
     for call in [Call::Next, Call::Skip, Call::GetStream, Call::Previous] {
         let mut place = made;
         let number = compare_call(tally, call, stream, &mut place);

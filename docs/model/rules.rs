@@ -1,4 +1,5 @@
-//! The rules of one unit (document 01, One unit; document 02, b): ids, actions, own data, and what may be nested in what.
+//! The rules of one unit (document 01, One unit; document 02, b and c): ids, actions, own data, and what may be nested in
+//! what.
 
 pub const MARK: [u8; 2] = [0xCD, 0xF1];
 pub const PREFIX: usize = 6;
@@ -76,7 +77,10 @@ pub enum Had {
     Group,
     /// Of a call or a group: one or more of what it admits.
     Units,
+    /// Of a template or an entity key: a temporary key, the only one then; one or more template keys.
+    Temporary,
     Keys,
+    /// Of a template: fields, after keys of either kind.
     Fields,
     /// Of a relation: the source; source and target.
     One,
@@ -89,9 +93,9 @@ pub fn possible(id: u64) -> &'static [Had] {
     match id {
         1 => &[Had::Nothing, Had::Call, Had::Group, Had::Skipped],
         2 | 4 | 13 => &[Had::Nothing, Had::Units, Had::Skipped],
-        5 => &[Had::Nothing, Had::Keys, Had::Fields, Had::Skipped],
+        5 => &[Had::Nothing, Had::Temporary, Had::Keys, Had::Fields, Had::Skipped],
         9 | 10 => &[Had::Nothing, Had::One, Had::Two, Had::Skipped],
-        11 => &[Had::Nothing, Had::Keys, Had::Skipped],
+        11 => &[Had::Nothing, Had::Temporary, Had::Keys, Had::Skipped],
         _ => &[],
     }
 }
@@ -104,11 +108,11 @@ pub fn after(id: u64, had: Had, nested: u64) -> Option<Had> {
         (1, Call, 4 | 13) => Some(Group),
         (2, Nothing | Units, 3) => Some(Units),
         (4, Nothing | Units, 5 | 9 | 10) => Some(Units),
-        (5, Nothing | Keys, 6 | 7) => Some(Keys),
-        (5, Keys | Fields, 8) => Some(Fields),
+        (5 | 11, Nothing, 6) => Some(Temporary),
+        (5 | 11, Nothing | Keys, 7) => Some(Keys),
+        (5, Temporary | Keys | Fields, 8) => Some(Fields),
         (9 | 10, Nothing, 11 | 12) => Some(One),
         (9 | 10, One, 11 | 12) => Some(Two),
-        (11, Nothing | Keys, 6 | 7) => Some(Keys),
         (13, Nothing | Units, 14) => Some(Units),
         _ => None,
     }

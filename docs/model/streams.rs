@@ -171,8 +171,31 @@ pub fn redirected(stream: &[u8], random: &mut Random) -> Vec<u8> {
     gone_on(&stream[..at as usize], &units, &more)
 }
 
-/// Damages units of a tree: their own fields, or their order.
+/// Gives a template or an entity key of a tree a key more, of any kind and at any place: kinds are mixed most of the time.
+/// False if the tree has neither.
+fn mix_keys(tree: &mut Tree, random: &mut Random) -> bool {
+    let has_keys = |(index, unit): (usize, &Request)| matches!(unit.id, 5 | 11).then_some(index);
+    let found: Vec<usize> = tree.requests().iter().enumerate().filter_map(has_keys).collect();
+    if found.is_empty() {
+        return false;
+    }
+    let unit = tree.unit_mut(random.pick(&found));
+    let mut key = request(random.pick(&[6, 7]), random);
+    match random.below(8) {
+        0 => key.action = random.below(7) as u64,
+        1 => damage_data(&mut key.data, random),
+        _ => {}
+    }
+    let at = random.below(unit.nested.len() + 1);
+    unit.nested.insert(at, Tree { unit: key, nested: vec![] });
+    true
+}
+
+/// Damages units of a tree: their own fields, their order, or their keys.
 pub fn damage_tree(tree: &mut Tree, random: &mut Random) {
+    if random.one_in(6) && mix_keys(tree, random) {
+        return;
+    }
     let index = random.below(tree.count());
     let unit = tree.unit_mut(index);
     match random.below(9) {

@@ -1,7 +1,9 @@
 //! What was compared, how often, and with which numbers; and the end of a run at the first difference.
 
+use crate::keys::TOO_MANY;
 use crate::pointed::{Byte, BYTES};
 use cdf_model::explain::Explanation;
+use cdf_model::rules::Had;
 use cdf_model::{builder, reader};
 use std::collections::BTreeMap;
 
@@ -63,13 +65,14 @@ const NOT_ASKED: [usize; 2] = [0, 7];
 
 /// The kinds of refusals that must have been explained. 'There' is the end of the incomplete unit, 'before it' is where the
 /// refused unit stands, or inside the incomplete one at its end.
-const EXPLAINED: [&str; 13] = [
+const EXPLAINED: [&str; 14] = [
     "no unit open",
     "one unit open",
     "two units open",
     "three units open",
     "four units open",
-    "no id admitted",
+    "no id admitted: a relation has both its ends",
+    "no id admitted: an entity key has its temporary key",
     "10, and one open unit ends there",
     "10, and two open units end there",
     "10, and three open units end there",
@@ -77,6 +80,17 @@ const EXPLAINED: [&str; 13] = [
     "one complete unit closed before it",
     "two complete units closed before it",
     "three complete units closed before it",
+];
+
+/// The functions that refuse a key too many with 7.
+const REFUSE_KEYS: [Function; 4] = [Function::Check, Function::Next, Function::Explain, Function::BuildNext];
+
+/// What must have been open in hand-made places that fit.
+const TEMPORARY: [&str; 4] = [
+    "reader: a template that has had its temporary key",
+    "reader: an entity key that has had its temporary key",
+    "builder: a template that has had its temporary key",
+    "builder: an entity key that has had its temporary key",
 ];
 
 pub struct Tally {
@@ -89,6 +103,9 @@ pub struct Tally {
     builder_missed: [u64; builder::CLAUSES.len()],
     explained: [u64; EXPLAINED.len()],
     pointed: [u64; BYTES.len()],
+    /// By function, of those that can give 7.
+    too_many: [[u64; TOO_MANY.len()]; 14],
+    temporary: [u64; TEMPORARY.len()],
 }
 
 impl Tally {
@@ -102,6 +119,8 @@ impl Tally {
             builder_missed: [0; builder::CLAUSES.len()],
             explained: [0; EXPLAINED.len()],
             pointed: [0; BYTES.len()],
+            too_many: [[0; TOO_MANY.len()]; 14],
+            temporary: [0; TEMPORARY.len()],
         }
     }
 
@@ -118,16 +137,38 @@ impl Tally {
         self.met[function as usize][number as usize] += 1;
     }
 
-    pub fn reader_place(&mut self, missed: u32) {
+    /// A hand-made place for n bytes.
+    pub fn reader_place(&mut self, place: &reader::Place, n: u64) {
+        let missed = place.missed(n);
         if missed.count_ones() == 1 {
             self.reader_missed[missed.trailing_zeros() as usize] += 1;
         }
+        if let (0, Some(innermost)) = (missed, place.open.last()) {
+            self.temporary(0, innermost.id, innermost.had);
+        }
     }
 
-    pub fn builder_place(&mut self, missed: u32) {
+    /// A hand-made place for a buffer of so many bytes.
+    pub fn builder_place(&mut self, place: &builder::Place, buffer: u64) {
+        let missed = place.missed(buffer);
         if missed.count_ones() == 1 {
             self.builder_missed[missed.trailing_zeros() as usize] += 1;
         }
+        if let (0, Some(innermost)) = (missed, place.open.last()) {
+            self.temporary(2, innermost.id, innermost.had);
+        }
+    }
+
+    /// What a place that fits says of its innermost unit.
+    fn temporary(&mut self, first: usize, id: u64, had: Had) {
+        if had == Had::Temporary {
+            self.temporary[first + usize::from(id == 11)] += 1;
+        }
+    }
+
+    /// A 7 that refused these of `TOO_MANY`.
+    pub fn too_many(&mut self, function: Function, which: &[usize]) {
+        which.iter().for_each(|which| self.too_many[function as usize][*which] += 1);
     }
 
     pub fn explained(&mut self, told: &Explanation) {
@@ -135,17 +176,19 @@ impl Tally {
             return;
         }
         self.explained[told.open.len()] += 1;
-        self.explained[5] += u64::from(told.ids.is_empty());
+        if told.ids.is_empty() {
+            self.explained[5 + usize::from(told.open.last().is_some_and(|unit| unit.id == 11))] += 1;
+        }
         if let (10, Some(incomplete)) = (told.number, told.open.last()) {
             let there = told.open.iter().filter(|unit| unit.end == incomplete.end);
-            self.explained[5 + there.count()] += 1;
+            self.explained[6 + there.count()] += 1;
         }
     }
 
     /// A refusal before which so many complete units were closed.
     pub fn closed(&mut self, units: usize) {
         if units > 0 {
-            self.explained[9 + units] += 1;
+            self.explained[10 + units] += 1;
         }
     }
 
@@ -173,7 +216,7 @@ impl Tally {
     }
 
     /// Prints the figures. False if a number was not met that the function can give, or met that it cannot, or if a clause
-    /// was never missed alone, a kind of refusal not explained, or a kind of byte not named.
+    /// was never missed alone, a kind of refusal not explained, a kind of byte not named, or a kind of key not refused.
     pub fn report(&self) -> bool {
         let mut good = true;
         println!("compared:");
@@ -207,6 +250,12 @@ impl Tally {
         good &= each_met(builder, &builder::CLAUSES, &self.builder_missed, &[]);
         good &= each_met("refusals explained", &EXPLAINED, &self.explained, &[]);
         good &= each_met("bytes that 9 named", &BYTES, &self.pointed, &[]);
+        for function in REFUSE_KEYS {
+            let (name, _) = CAN_GIVE[function as usize];
+            let keys = format!("keys too many that got 7 from {name}");
+            good &= each_met(&keys, &TOO_MANY, &self.too_many[function as usize], &[]);
+        }
+        good &= each_met("hand-made places that fit, and their innermost unit", &TEMPORARY, &self.temporary, &[]);
         good
     }
 }

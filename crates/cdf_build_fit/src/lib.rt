@@ -13,7 +13,7 @@ use cdf_prefix::limit;
 use cdf_units::Open;
 
 // The states but for 'skipped', a bit for each.
-const BUILDABLE: usize = 232643438;
+const BUILDABLE: usize = 1002167150;
 
 // Whether a unit that is built may be in this state.
 fn is_buildable(state: usize) -> bool

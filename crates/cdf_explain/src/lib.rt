@@ -36,7 +36,7 @@ struct Choices {
 }
 
 // The unit that a state is of, by the state.
-const UNITS: [usize; 29] = [
+const UNITS: [usize; 31] = [
     0,
     1,
     1,
@@ -55,6 +55,7 @@ const UNITS: [usize; 29] = [
     5,
     5,
     5,
+    5,
     9,
     9,
     9,
@@ -63,6 +64,7 @@ const UNITS: [usize; 29] = [
     10,
     10,
     10,
+    11,
     11,
     11,
     11,
@@ -72,7 +74,7 @@ const UNITS: [usize; 29] = [
 fn unit_of(state: usize) -> usize
     ensures { λ r. ⌜ r ≡ unitOf state ⌝ }
 {
-    if state < 29 {
+    if state < 31 {
         return UNITS[state];
     }
     0

@@ -53,7 +53,7 @@ aTemplate = (
     record {
       acts = inl refl;
       says = oneLetter;
-      holds = (temporaryKey ∷ [], [], refl, (temporaryKey ∷ [], [], refl, inl refl, end refl), end refl);
+      holds = (temporaryKey ∷ [], [], refl, inl refl, end refl);
     },
     aKey .1,
     record {},
@@ -83,6 +83,7 @@ missing =
     ∷ nothingMore
     -- a template
     ∷ aKey
+    ∷ nothingMore
     ∷ nothingMore
     ∷ nothingMore
     ∷ nothingMore

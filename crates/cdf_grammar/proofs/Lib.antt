@@ -20,3 +20,4 @@ pub mod Backward
 pub mod Proved
 pub mod Completing
 pub mod Person
+pub mod OneKind

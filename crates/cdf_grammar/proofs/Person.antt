@@ -48,7 +48,7 @@ person-grammatical =
               temporaryKey ∷ [],
               field ∷ [],
               refl,
-              (temporaryKey ∷ [], [], refl, inl refl, end refl),
+              inl refl,
               piece (field ∷ []) [] refl refl (end refl),
             );
           },

@@ -23,6 +23,7 @@ use Rattle.cdf_grammar.proofs.Forward.{lists, length-list}
 use Rattle.cdf_grammar.proofs.Backward.{built}
 use Rattle.cdf_grammar.proofs.Heights.{depth-most}
 use Rattle.cdf_grammar.proofs.Person.{person-grammatical}
+use Rattle.cdf_grammar.proofs.OneKind.{one-kind}
 use Rattle.cdf_grammar.proofs.Unique.{unique}
 use Rattle.cdf_grammar.proofs.Items.{said-once, items}
 
@@ -102,6 +103,7 @@ of e =
       unique = once l room;
       listed = λ s t p. ap (λ (x : Listing). x .units) (whole l room s t p);
       shallow = λ s t p. let w = tree-of l room s t p in depth-most l t (w .id) (w .single) (w .fit);
+      one-kind = λ s t p. one-kind t (p .tree .conforms);
       same = λ s r b c x y e.
           let t = stream-of l room s b x in
           let u = stream-of l room r c y in

@@ -8,7 +8,7 @@ use mathlib.Core.Option.{Option, none, some}
 use native.Mathlib.Omega.{arith}
 use lib.Dec.{T, eqb, ltb, ltb→lt}
 use lib.ListN.{getD}
-use Rattle.cdf_table.specs.Ids.{stream, call, parameter, erGroup, template, templateKey, field, relation, orderedRelation}
+use Rattle.cdf_table.specs.Ids.{stream, call, parameter, erGroup, template, temporaryKey, templateKey, field, relation, orderedRelation}
 use Rattle.cdf_table.specs.Ids.{entityKey, fileGroup, line, idsEnd}
 use Rattle.cdf_table.specs.States.{parents, statesEnd, admit, opens, nothing, complete}
 use Rattle.cdf_table.proofs.Rows.{admit-below, admit-unknown, from-parents, none-opens}
@@ -41,6 +41,7 @@ expectations =
     ∷ leftAfter parameter (unit call)
     ∷ some empty
     ∷ unit template
+    ∷ leftAfter temporaryKey (unit template)
     ∷ leftAfter templateKey (unit template)
     ∷ leftAfter field (leftAfter templateKey (unit template))
     ∷ some empty
@@ -53,6 +54,7 @@ expectations =
     ∷ leftAfter entityKey (leftAfter entityKey (unit orderedRelation))
     ∷ some empty
     ∷ unit entityKey
+    ∷ leftAfter temporaryKey (unit entityKey)
     ∷ leftAfter templateKey (unit entityKey)
     ∷ some empty
     ∷ []

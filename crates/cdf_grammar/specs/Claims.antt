@@ -2,15 +2,19 @@
 -- "What the statements have to settle"). The term of this record stands in proofs/Proved.
 use Prim.Native.Nat.{ℕ, _≤_}
 use mathlib.Core.Path.{_≡_}
-use mathlib.Core.List.{List, map}
-use mathlib.Core.Logic.{_↔_}
+use mathlib.Core.Bool.{cond, _||_}
+use mathlib.Core.List.{List, [], _∷_, map}
+use mathlib.Core.Logic.{_↔_, _⊎_}
+use lib.Dec.{eqb}
+use Rattle.cdf_table.specs.Ids.{template, temporaryKey, templateKey, entityKey}
 use Rattle.cdf_prefix.specs.Layout.{Layout, layoutOf}
 use Rattle.cdf_units.specs.Units.{listing}
 use Rattle.cdf_units.specs.Check.{checkOf}
 use Rattle.cdf_units.specs.Samples.{k2}
 use Rattle.cdf_prefix.specs.declared.Edition.{Edition}
 use Rattle.cdf_prefix.specs.declared.Edition.the-variants.{First}
-use Rattle.cdf_grammar.specs.Trees.{Forest, units, depth}
+use Rattle.cdf_grammar.specs.Trees.{Forest, none, tree, ids, units, depth}
+use Rattle.cdf_grammar.specs.Published.{Each, Among}
 use Rattle.cdf_grammar.specs.Encoding.{Bytes, Stream, list, Item, itemOf}
 use Rattle.cdf_grammar.specs.Example.{person}
 
@@ -22,6 +26,21 @@ Accepted l s = checkOf l s .number ≡ 0
 unfoldable pub itemsOf : Layout → List ℕ → List Item
 unfolding itemOf listing
 itemsOf l s = map (itemOf l s) (listing l s .units)
+
+-- Those of these ids that are a key's.
+unfoldable pub keysAmong : List ℕ → List ℕ
+keysAmong [] = []
+keysAmong (c ∷ cs) = cond (eqb c temporaryKey || eqb c templateKey) (c ∷ keysAmong cs) (keysAmong cs)
+
+-- One temporary key and no other key, or template keys alone and at least one.
+abbrev pub OneKind : List ℕ → Type 0
+OneKind keys = (keys ≡ temporaryKey ∷ []) ⊎ ((keys ≡ [] → ⊥) × Each (λ k. k ≡ templateKey) keys)
+
+-- Each unit of these kinds, anywhere in the trees, has keys of one kind.
+abbrev pub OneKindEach : List ℕ → Forest → Type 0
+OneKindEach kinds none = record {}
+OneKindEach kinds (tree id action text inner rest) =
+    (Among id kinds → OneKind (keysAmong (ids inner))) × OneKindEach kinds inner × OneKindEach kinds rest
 
 -- What holds in one edition. `A ↔ B` is 'A exactly if B', and `(t : Forest) × P t` is 'there is a t with P t'.
 pub record InEdition (e : Edition) : Type 0 where
@@ -36,6 +55,8 @@ pub record InEdition (e : Edition) : Type 0 where
   pub listed : (s : List ℕ) (t : Forest) → Stream (layoutOf e) s t → listing (layoutOf e) s .units ≡ list (layoutOf e) 0 t
   -- It is at most five units deep.
   pub shallow : (s : List ℕ) (t : Forest) → Stream (layoutOf e) s t → depth t ≤ 5
+  -- Each of its templates and entity keys has one temporary key and no other key, or only template keys (02, c).
+  pub one-kind : (s : List ℕ) (t : Forest) → Stream (layoutOf e) s t → OneKindEach (template ∷ entityKey ∷ []) t
   -- Two accepted streams whose units say the same are the same bytes.
   pub same : (s r : List ℕ) → Bytes s → Bytes r → Accepted (layoutOf e) s → Accepted (layoutOf e) r →
       itemsOf (layoutOf e) s ≡ itemsOf (layoutOf e) r → s ≡ r

@@ -24,9 +24,16 @@ erDataGroup = one 4
 abbrev template : Content
 template = one 5
 
--- <tmpl_key>: a temporary key or a template key
+-- <tmpl_key>: a temporary key (<temp_key>) or a template key
+abbrev tempKey : Content
+tempKey = one 6
+
 abbrev tmplKey : Content
-tmplKey = either (one 6) (one 7)
+tmplKey = one 7
+
+-- <tmpl_key_list>, as 02, c mends it: one temporary key, or one or more template keys
+abbrev pub tmplKeyList : Content
+tmplKeyList = either tempKey (some tmplKey)
 
 abbrev field : Content
 field = one 8
@@ -135,7 +142,7 @@ productions =
     -- <er_data_group>: <er_data_list>
     ∷ production noAction noText (some erData)
     -- <template>: template_name <tmpl_key_list> <field_list>
-    ∷ production crudAction nameText (both (some tmplKey) (many field))
+    ∷ production crudAction nameText (both tmplKeyList (many field))
     -- <tmpl_key>: <temp_key>
     ∷ production noAction (numberText 4) empty
     -- <tmpl_key>: key_value
@@ -147,7 +154,7 @@ productions =
     -- <rel>, ordered: <rel_key> <rel_posn> <source_key> <target_key>
     ∷ production cuAction (numberText 8) (both sourceKey targetKey)
     -- <relent_key>: template_name <tmpl_key_list>
-    ∷ production noAction nameText (some tmplKey)
+    ∷ production noAction nameText tmplKeyList
     -- <relrel_key>: rel_key
     ∷ production noAction (numberText 4) empty
     -- <file_data_group>: <file_data_list>

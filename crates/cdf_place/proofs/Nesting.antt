@@ -5,36 +5,46 @@ use mathlib.Core.Bool.{Bool, true, false, cond, _&&_, and-false}
 use native.Mathlib.Omega.{arith}
 use borrow.Author.Tests.{lt-leb, ltb-true, ltb-false}
 use lib.Dec.{leb, ltb}
-use Rattle.cdf_table.specs.States.{statesEnd, unitOf, rootKind, admitsKind}
+use Rattle.cdf_table.specs.States.{statesEnd, unitOf, rootKind, admitsKind, streamNew, streamSkipped, erNew, erSkipped, fileSkipped}
+use Rattle.cdf_table.specs.States.{callSkipped, templateNew, relationNew, orderedSkipped, entityNew, entitySkipped}
 use Rattle.cdf_table.proofs.Tests.{agree}
 use Rattle.cdf_table.proofs.Tables.{upTo, same-below, same}
 use Rattle.cdf_table.proofs.Rows.{no-unit, admits-none, none-admits}
 
-root-past : (s : ℕ) → statesEnd ≤ s → (leb 1 s && leb s 10) ≡ rootKind (unitOf s)
+root-past : (s : ℕ) → statesEnd ≤ s → (leb streamNew s && leb s fileSkipped) ≡ rootKind (unitOf s)
 unfolding rootKind
-root-past s h = rw (lt-leb s 10 (omega arith), and-false, no-unit s h)
+root-past s h = rw (lt-leb s fileSkipped (omega arith), and-false, no-unit s h)
 
-pub root-is : (s : ℕ) → (leb 1 s && leb s 10) ≡ rootKind (unitOf s)
+pub root-is : (s : ℕ) → (leb streamNew s && leb s fileSkipped) ≡ rootKind (unitOf s)
 unfolding rootKind unitOf
-root-is = agree (λ s. leb 1 s && leb s 10) (λ s. rootKind (unitOf s)) statesEnd tt root-past
+root-is = agree (λ s. leb streamNew s && leb s fileSkipped) (λ s. rootKind (unitOf s)) statesEnd tt root-past
 
 -- The kinds that lie in one another, as the code tests them.
 unfoldable pub nestsBy : ℕ → ℕ → Bool
 nestsBy p c =
-    cond (leb 5 p && leb p 7) (leb 14 c && leb c 25)
-    (cond (leb 1 p && leb p 4) (leb 5 c && leb c 13) (cond (leb 18 p && leb p 25) (leb 26 c && leb c 28) false))
+    cond (leb erNew p && leb p erSkipped) (leb templateNew c && leb c orderedSkipped)
+    (cond (leb streamNew p && leb p streamSkipped) (leb erNew c && leb c callSkipped)
+    (cond (leb relationNew p && leb p orderedSkipped) (leb entityNew c && leb c entitySkipped) false))
 
 outer-past : (p c : ℕ) → statesEnd ≤ p → nestsBy p c ≡ admitsKind (unitOf p) (unitOf c)
 unfolding nestsBy
 outer-past p c h =
-    rw (lt-leb p 7 (omega arith), lt-leb p 4 (omega arith), lt-leb p 25 (omega arith), admits-none (unitOf p) (unitOf c) (no-unit p h))
-    (simp and-false)
+    rw (
+      lt-leb p erSkipped (omega arith),
+      lt-leb p streamSkipped (omega arith),
+      lt-leb p orderedSkipped (omega arith),
+      admits-none (unitOf p) (unitOf c) (no-unit p h),
+    ) (simp and-false)
 
 inner-past : (p c : ℕ) → statesEnd ≤ c → nestsBy p c ≡ admitsKind (unitOf p) (unitOf c)
 unfolding nestsBy
 inner-past p c h =
-    rw (lt-leb c 25 (omega arith), lt-leb c 13 (omega arith), lt-leb c 28 (omega arith), none-admits (unitOf p) (unitOf c) (no-unit c h))
-    (simp and-false (go (leb 5 p && leb p 7) (leb 1 p && leb p 4) (leb 18 p && leb p 25)))
+    rw (
+      lt-leb c orderedSkipped (omega arith),
+      lt-leb c callSkipped (omega arith),
+      lt-leb c entitySkipped (omega arith),
+      none-admits (unitOf p) (unitOf c) (no-unit c h),
+    ) (simp and-false (go (leb erNew p && leb p erSkipped) (leb streamNew p && leb p streamSkipped) (leb relationNew p && leb p orderedSkipped)))
   where
     go : (x y z : Bool) → cond x false (cond y false (cond z false false)) ≡ false
     go true y z = refl

@@ -5,18 +5,22 @@ use mathlib.Core.Bool.{cond, _&&_}
 use native.Mathlib.Omega.{arith}
 use borrow.Author.Tests.{le-ltb, lt-leb, leb-true}
 use lib.Dec.{leb, ltb, ltb→lt}
-use Rattle.cdf_table.specs.States.{parents, statesEnd, skipped}
+use Rattle.cdf_table.specs.States.{parents, statesEnd, skipped, streamNew, streamSkipped, erSkipped, fileSkipped, callSkipped}
+use Rattle.cdf_table.specs.States.{templateSkipped, relationSkipped, orderedSkipped, entitySkipped}
 use Rattle.cdf_table.proofs.Bools.{both}
 use Rattle.cdf_table.proofs.Tables.{same}
 use Rattle.cdf_table.proofs.Rows.{from-parents}
 
 unfoldable pub skippedBy : ℕ → ℕ
 skippedBy s =
-    cond (ltb s 1) 0
-    (cond (leb s 4) 4
-    (cond (leb s 7) 7
-    (cond (leb s 10) 10
-    (cond (leb s 13) 13 (cond (leb s 17) 17 (cond (leb s 21) 21 (cond (leb s 25) 25 (cond (leb s 28) 28 0))))))))
+    cond (ltb s streamNew) 0
+    (cond (leb s streamSkipped) streamSkipped
+    (cond (leb s erSkipped) erSkipped
+    (cond (leb s fileSkipped) fileSkipped
+    (cond (leb s callSkipped) callSkipped
+    (cond (leb s templateSkipped) templateSkipped
+    (cond (leb s relationSkipped) relationSkipped
+    (cond (leb s orderedSkipped) orderedSkipped (cond (leb s entitySkipped) entitySkipped 0))))))))
 
 past : (s : ℕ) → statesEnd ≤ s → skipped s ≡ 0
 unfolding skipped
@@ -29,15 +33,15 @@ unfolding skippedBy
 by-past s h =
     rw (
       past s h,
-      le-ltb s 1 (omega arith),
-      lt-leb s 4 (omega arith),
-      lt-leb s 7 (omega arith),
-      lt-leb s 10 (omega arith),
-      lt-leb s 13 (omega arith),
-      lt-leb s 17 (omega arith),
-      lt-leb s 21 (omega arith),
-      lt-leb s 25 (omega arith),
-      lt-leb s 28 (omega arith),
+      le-ltb s streamNew (omega arith),
+      lt-leb s streamSkipped (omega arith),
+      lt-leb s erSkipped (omega arith),
+      lt-leb s fileSkipped (omega arith),
+      lt-leb s callSkipped (omega arith),
+      lt-leb s templateSkipped (omega arith),
+      lt-leb s relationSkipped (omega arith),
+      lt-leb s orderedSkipped (omega arith),
+      lt-leb s entitySkipped (omega arith),
     )
 
 pub skipped-is : (s : ℕ) → skippedBy s ≡ skipped s

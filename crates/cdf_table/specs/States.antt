@@ -50,58 +50,64 @@ callParameters = 12
 abbrev pub callSkipped : ℕ
 callSkipped = 13
 
--- of a template: nothing, keys alone, keys and then fields, skipped
+-- of a template: nothing, its temporary key alone, template keys alone, what it has for keys and then fields, skipped (02, c)
 abbrev pub templateNew : ℕ
 templateNew = 14
 
+abbrev pub templateTemporary : ℕ
+templateTemporary = 15
+
 abbrev pub templateKeys : ℕ
-templateKeys = 15
+templateKeys = 16
 
 abbrev pub templateFields : ℕ
-templateFields = 16
+templateFields = 17
 
 abbrev pub templateSkipped : ℕ
-templateSkipped = 17
+templateSkipped = 18
 
 -- of a relation: nothing, a source, a source and a target, skipped
 abbrev pub relationNew : ℕ
-relationNew = 18
+relationNew = 19
 
 abbrev pub relationSource : ℕ
-relationSource = 19
+relationSource = 20
 
 abbrev pub relationTarget : ℕ
-relationTarget = 20
+relationTarget = 21
 
 abbrev pub relationSkipped : ℕ
-relationSkipped = 21
+relationSkipped = 22
 
 -- of an ordered relation, as of a relation
 abbrev pub orderedNew : ℕ
-orderedNew = 22
+orderedNew = 23
 
 abbrev pub orderedSource : ℕ
-orderedSource = 23
+orderedSource = 24
 
 abbrev pub orderedTarget : ℕ
-orderedTarget = 24
+orderedTarget = 25
 
 abbrev pub orderedSkipped : ℕ
-orderedSkipped = 25
+orderedSkipped = 26
 
--- of an entity key: nothing, keys, skipped
+-- of an entity key: nothing, its temporary key, template keys, skipped (02, c)
 abbrev pub entityNew : ℕ
-entityNew = 26
+entityNew = 27
+
+abbrev pub entityTemporary : ℕ
+entityTemporary = 28
 
 abbrev pub entityKeys : ℕ
-entityKeys = 27
+entityKeys = 29
 
 abbrev pub entitySkipped : ℕ
-entitySkipped = 28
+entitySkipped = 30
 
 -- One more than the last state.
 abbrev pub statesEnd : ℕ
-statesEnd = 29
+statesEnd = 31
 
 -- The units that admit others: the first and the last of their states.
 pub record Parent : Type 0 where
@@ -176,10 +182,10 @@ rows =
     ∷ row erData template erData
     ∷ row erData relation erData
     ∷ row erData orderedRelation erData
-    ∷ row templateNew temporaryKey templateKeys
+    ∷ row templateNew temporaryKey templateTemporary
     ∷ row templateNew templateKey templateKeys
-    ∷ row templateKeys temporaryKey templateKeys
     ∷ row templateKeys templateKey templateKeys
+    ∷ row templateTemporary field templateFields
     ∷ row templateKeys field templateFields
     ∷ row templateFields field templateFields
     ∷ row relationNew entityKey relationSource
@@ -190,9 +196,8 @@ rows =
     ∷ row orderedNew relationKey orderedSource
     ∷ row orderedSource entityKey orderedTarget
     ∷ row orderedSource relationKey orderedTarget
-    ∷ row entityNew temporaryKey entityKeys
+    ∷ row entityNew temporaryKey entityTemporary
     ∷ row entityNew templateKey entityKeys
-    ∷ row entityKeys temporaryKey entityKeys
     ∷ row entityKeys templateKey entityKeys
     ∷ row fileNew line fileLines
     ∷ row fileLines line fileLines
@@ -242,6 +247,7 @@ completeStates =
     ∷ callNew
     ∷ callParameters
     ∷ callSkipped
+    ∷ templateTemporary
     ∷ templateKeys
     ∷ templateFields
     ∷ templateSkipped
@@ -249,6 +255,7 @@ completeStates =
     ∷ relationSkipped
     ∷ orderedTarget
     ∷ orderedSkipped
+    ∷ entityTemporary
     ∷ entityKeys
     ∷ entitySkipped
     ∷ []

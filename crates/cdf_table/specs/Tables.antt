@@ -9,10 +9,10 @@ use Rattle.cdf_table.specs.Ids.{relation, orderedRelation, entityKey, re
 use Rattle.cdf_table.specs.States.{unitOf, admitsKind, streamNew, streamCall, streamGroup, streamSkipped}
 use Rattle.cdf_table.specs.States.{erNew, erData, erSkipped, fileNew, fileLines, fileSkipped}
 use Rattle.cdf_table.specs.States.{callNew, callParameters, callSkipped}
-use Rattle.cdf_table.specs.States.{templateNew, templateKeys, templateFields, templateSkipped}
+use Rattle.cdf_table.specs.States.{templateNew, templateTemporary, templateKeys, templateFields, templateSkipped}
 use Rattle.cdf_table.specs.States.{relationNew, relationSource, relationTarget, relationSkipped}
 use Rattle.cdf_table.specs.States.{orderedNew, orderedSource, orderedTarget, orderedSkipped}
-use Rattle.cdf_table.specs.States.{entityNew, entityKeys, entitySkipped}
+use Rattle.cdf_table.specs.States.{entityNew, entityTemporary, entityKeys, entitySkipped}
 
 -- The numbers below a bound that pass a test, rising.
 unfoldable pub those : (ℕ → Bool) → ℕ → List ℕ
@@ -61,13 +61,13 @@ statesDue =
     ∷ entry call (callNew ∷ callParameters ∷ callSkipped ∷ [])
     ∷ entry parameter []
     ∷ entry erGroup (erNew ∷ erData ∷ erSkipped ∷ [])
-    ∷ entry template (templateNew ∷ templateKeys ∷ templateFields ∷ templateSkipped ∷ [])
+    ∷ entry template (templateNew ∷ templateTemporary ∷ templateKeys ∷ templateFields ∷ templateSkipped ∷ [])
     ∷ entry temporaryKey []
     ∷ entry templateKey []
     ∷ entry field []
     ∷ entry relation (relationNew ∷ relationSource ∷ relationTarget ∷ relationSkipped ∷ [])
     ∷ entry orderedRelation (orderedNew ∷ orderedSource ∷ orderedTarget ∷ orderedSkipped ∷ [])
-    ∷ entry entityKey (entityNew ∷ entityKeys ∷ entitySkipped ∷ [])
+    ∷ entry entityKey (entityNew ∷ entityTemporary ∷ entityKeys ∷ entitySkipped ∷ [])
     ∷ entry relationKey []
     ∷ entry fileGroup (fileNew ∷ fileLines ∷ fileSkipped ∷ [])
     ∷ entry line []

@@ -76,33 +76,37 @@ pub const CALL_SKIPPED: usize = 13;
 
 pub const TEMPLATE_NEW: usize = 14;
 
-pub const TEMPLATE_KEYS: usize = 15;
+pub const TEMPLATE_TEMPORARY: usize = 15;
 
-pub const TEMPLATE_FIELDS: usize = 16;
+pub const TEMPLATE_KEYS: usize = 16;
 
-pub const TEMPLATE_SKIPPED: usize = 17;
+pub const TEMPLATE_FIELDS: usize = 17;
 
-pub const RELATION_NEW: usize = 18;
+pub const TEMPLATE_SKIPPED: usize = 18;
 
-pub const RELATION_SOURCE: usize = 19;
+pub const RELATION_NEW: usize = 19;
 
-pub const RELATION_TARGET: usize = 20;
+pub const RELATION_SOURCE: usize = 20;
 
-pub const RELATION_SKIPPED: usize = 21;
+pub const RELATION_TARGET: usize = 21;
 
-pub const ORDERED_NEW: usize = 22;
+pub const RELATION_SKIPPED: usize = 22;
 
-pub const ORDERED_SOURCE: usize = 23;
+pub const ORDERED_NEW: usize = 23;
 
-pub const ORDERED_TARGET: usize = 24;
+pub const ORDERED_SOURCE: usize = 24;
 
-pub const ORDERED_SKIPPED: usize = 25;
+pub const ORDERED_TARGET: usize = 25;
 
-pub const ENTITY_NEW: usize = 26;
+pub const ORDERED_SKIPPED: usize = 26;
 
-pub const ENTITY_KEYS: usize = 27;
+pub const ENTITY_NEW: usize = 27;
 
-pub const ENTITY_SKIPPED: usize = 28;
+pub const ENTITY_TEMPORARY: usize = 28;
+
+pub const ENTITY_KEYS: usize = 29;
+
+pub const ENTITY_SKIPPED: usize = 30;
 
 pub fn is_known(id: usize) -> bool
     ensures { λ r. ⌜ r ≡ known id ⌝ }
@@ -181,7 +185,7 @@ pub fn skipped_state(state: usize) -> usize
 }
 
 // The states in which a unit is complete, a bit for each.
-const COMPLETE: usize = 456376028;
+const COMPLETE: usize = 1986510556;
 
 // Whether a unit in this state is complete.
 pub fn is_complete(state: usize) -> bool
@@ -201,9 +205,20 @@ fn within(state: usize, from: usize, to: usize, next: usize) -> usize
     }
 }
 
-// The state after a temporary key or a template key, or 0.
+// The state after a temporary key, which is a unit's only key, or 0.
+fn after_temporary(state: usize) -> usize
+    ensures { λ r. ⌜ r ≡ admit state temporaryKey ⌝ }
+{
+    match state {
+        TEMPLATE_NEW => TEMPLATE_TEMPORARY,
+        ENTITY_NEW => ENTITY_TEMPORARY,
+        _ => 0,
+    }
+}
+
+// The state after a template key, or 0.
 fn after_key(state: usize) -> usize
-    ensures { λ r. ⌜ (r ≡ admit state temporaryKey) × (r ≡ admit state templateKey) ⌝ }
+    ensures { λ r. ⌜ r ≡ admit state templateKey ⌝ }
 {
     match state {
         TEMPLATE_NEW => TEMPLATE_KEYS,
@@ -238,9 +253,9 @@ pub fn state_after(state: usize, child: usize) -> usize
         PARAMETER => within(state, CALL_NEW, CALL_PARAMETERS, CALL_PARAMETERS),
         TEMPLATE | RELATION => within(state, ER_NEW, ER_DATA, ER_DATA),
         ORDERED_RELATION => within(state, ER_NEW, ER_DATA, ER_DATA),
-        TEMPORARY_KEY => after_key(state),
+        TEMPORARY_KEY => after_temporary(state),
         TEMPLATE_KEY => after_key(state),
-        FIELD => within(state, TEMPLATE_KEYS, TEMPLATE_FIELDS, TEMPLATE_FIELDS),
+        FIELD => within(state, TEMPLATE_TEMPORARY, TEMPLATE_FIELDS, TEMPLATE_FIELDS),
         ENTITY_KEY => after_end(state),
         RELATION_KEY => after_end(state),
         LINE => within(state, FILE_NEW, FILE_LINES, FILE_LINES),

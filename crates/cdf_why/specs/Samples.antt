@@ -48,6 +48,16 @@ noKey =
     ∷ 0xcd ∷ 0xf1 ∷ 0 ∷ 0x0a ∷ 0 ∷ 12 ∷ 0 ∷ 0 ∷ 0 ∷ 1
     ∷ 0xcd ∷ 0xf1 ∷ 0 ∷ 8 ∷ 0 ∷ 11 ∷ 1 ∷ 0x50 ∷ []
 
+-- An entity key that has had its temporary key: it admits nothing more (02, c).
+abbrev pub secondKey : List ℕ
+secondKey =
+    0xcd ∷ 0xf1 ∷ 0 ∷ 0x36 ∷ 0 ∷ 4
+    ∷ 0xcd ∷ 0xf1 ∷ 0 ∷ 0x30 ∷ 1 ∷ 9 ∷ 0 ∷ 0 ∷ 0 ∷ 1
+    ∷ 0xcd ∷ 0xf1 ∷ 0 ∷ 0x1c ∷ 0 ∷ 11 ∷ 1 ∷ 0x50
+    ∷ 0xcd ∷ 0xf1 ∷ 0 ∷ 0x0a ∷ 0 ∷ 6 ∷ 0 ∷ 0 ∷ 0 ∷ 1
+    ∷ 0xcd ∷ 0xf1 ∷ 0 ∷ 0x0a ∷ 0 ∷ 6 ∷ 0 ∷ 0 ∷ 0 ∷ 2
+    ∷ 0xcd ∷ 0xf1 ∷ 0 ∷ 0x0a ∷ 0 ∷ 12 ∷ 0 ∷ 0 ∷ 0 ∷ 2 ∷ []
+
 unfoldable pub samplesFound : List Told
 unfolding tellOf
 samplesFound =
@@ -65,6 +75,7 @@ samplesFound =
     ∷ tellOf k12
     ∷ tellOf thirdEnd
     ∷ tellOf noKey
+    ∷ tellOf secondKey
     ∷ []
 
 -- Of a refused start: nothing open, and a root's ids.
@@ -82,9 +93,10 @@ samplesDue =
     ∷ told 3 15 (at 13 0 ∷ []) (14 ∷ [])
     ∷ told 7 29 (at 4 0 ∷ []) (5 ∷ 9 ∷ 10 ∷ [])
     ∷ atStart 4
-    ∷ told 8 29 (at 4 0 ∷ at 5 6 ∷ []) (6 ∷ 7 ∷ 8 ∷ [])
+    ∷ told 8 29 (at 4 0 ∷ at 5 6 ∷ []) (8 ∷ [])
     ∷ told 9 13 (at 4 0 ∷ []) (5 ∷ 9 ∷ 10 ∷ [])
     ∷ told 0 0 [] []
     ∷ told 7 36 (at 4 0 ∷ at 9 6 ∷ []) []
     ∷ told 10 26 (at 4 0 ∷ at 9 6 ∷ at 11 26 ∷ []) (6 ∷ 7 ∷ [])
+    ∷ told 7 34 (at 4 0 ∷ at 9 6 ∷ at 11 16 ∷ []) []
     ∷ []

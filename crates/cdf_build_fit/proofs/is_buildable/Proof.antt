@@ -18,7 +18,7 @@ shr-result c = search needs
 returns : tie.Need-returns
 unfolding skipped
 returns c =
-    agree (λ k. ltb k 32 && eqb (bitAnd (232643438 / 2 ^ (k % 32)) 1) 1) buildable 32 tt
+    agree (λ k. ltb k 32 && eqb (bitAnd (1002167150 / 2 ^ (k % 32)) 1) 1) buildable 32 tt
     (λ k h. rw (le-ltb k 32 h, le-ltb k statesEnd (omega arith), and-false)) (c .args .state)
 
 pub is-buildable-spec : {M : Type 1} → statement M

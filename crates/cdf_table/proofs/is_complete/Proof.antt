@@ -17,7 +17,7 @@ shr-result c = search needs
 returns : tie.Need-returns
 unfolding complete
 returns c =
-    agree (λ k. ltb k 32 && eqb (bitAnd (456376028 / 2 ^ (k % 32)) 1) 1) complete 32 tt
+    agree (λ k. ltb k 32 && eqb (bitAnd (1986510556 / 2 ^ (k % 32)) 1) 1) complete 32 tt
     (λ k h. rw (le-ltb k 32 h) (sym (not-member completeStates 32 tt k h))) (c .args .state)
 
 pub is-complete-spec : {M : Type 1} → statement M

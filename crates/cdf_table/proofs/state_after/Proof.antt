@@ -6,7 +6,7 @@ use native.Mathlib.Omega.{arith}
 use borrow.Author.Needs.{needs}
 use Rattle.cdf_table.specs.Ids.{member, call, parameter, erGroup, template, field, relation, orderedRelation, fileGroup, line}
 use Rattle.cdf_table.specs.States.{admit, streamNew, streamCall, streamGroup, erNew, erData, fileNew, fileLines}
-use Rattle.cdf_table.specs.States.{callNew, callParameters, templateKeys, templateFields}
+use Rattle.cdf_table.specs.States.{callNew, callParameters, templateTemporary, templateFields}
 use Rattle.cdf_table.proofs.Match.{each}
 use Rattle.cdf_table.proofs.Rows.{ranged, no-child}
 use Rattle.cdf_table.proofs.state_after.Statement.{statement}
@@ -27,11 +27,11 @@ within-requires-4 c κs = search needs
 within-requires-5 : tie.Need-within-requires-5
 within-requires-5 c κs = search needs
 
+after-temporary-requires : tie.Need-after-temporary-requires
+after-temporary-requires c κs = search needs
+
 after-key-requires : tie.Need-after-key-requires
 after-key-requires c κs = search needs
-
-after-key-requires-2 : tie.Need-after-key-requires-2
-after-key-requires-2 c κs = search needs
 
 within-requires-6 : tie.Need-within-requires-6
 within-requires-6 c κs = search needs
@@ -82,16 +82,16 @@ returns-5 c =
     rw (c .before .match .keys5) (c .within5 .ensures ∙ ranged erNew erData erData orderedRelation (omega arith) refl state)
 
 returns-6 : tie.Need-returns-6
-returns-6 c = rw (c .before .match .keys6) (c .after-key .ensures .0)
+returns-6 c = rw (c .before .match .keys6) (c .after-temporary .ensures)
 
 returns-7 : tie.Need-returns-7
-returns-7 c = rw (c .before .match .keys7) (c .after-key2 .ensures .1)
+returns-7 c = rw (c .before .match .keys7) (c .after-key .ensures)
 
 returns-8 : tie.Need-returns-8
 unfolding admit
 returns-8 c =
     let state = c .before .before .args .state in
-    rw (c .before .match .keys8) (c .within6 .ensures ∙ ranged templateKeys templateFields templateFields field (omega arith) refl state)
+    rw (c .before .match .keys8) (c .within6 .ensures ∙ ranged templateTemporary templateFields templateFields field (omega arith) refl state)
 
 returns-9 : tie.Need-returns-9
 returns-9 c = rw (c .before .match .keys9) (c .after-end .ensures .0)
@@ -121,8 +121,8 @@ state-after-spec =
     within-requires-3
     within-requires-4
     within-requires-5
+    after-temporary-requires
     after-key-requires
-    after-key-requires-2
     within-requires-6
     after-end-requires
     after-end-requires-2
