@@ -1,5 +1,5 @@
-/* The proved library for Common Data Format streams: the check, why it refuses a stream, the reader and a run of the reader's
- * calls, and by cdf_build.h the builder and the listing.
+/* The proved library for Common Data Format streams: the check, why it refuses a stream, the lookup of a value in two, the reader
+ * and a run of the reader's calls, and by cdf_build.h the builder and the listing.
  *
  * Build target/libcdf.a with ./library, include this file and link the archive: it needs nothing else.
  *
@@ -38,6 +38,7 @@ extern "C" {
 #define CDF_NO_ROOM 12      /* the log, the text or the buffer is too short */
 #define CDF_TOO_LONG 13     /* a stream would be longer than 65,535 bytes */
 #define CDF_BAD_GROUP 14    /* what was to be added is no stream of its own */
+#define CDF_NOT_FOUND 15    /* neither stream has the field that is looked up */
 
 /* The check of a whole stream. answer[0] is the number of units beside CDF_OK, and else the offset. */
 uint64_t cdf_check(const uint8_t *stream, size_t length, uint64_t answer[1]);
@@ -54,6 +55,26 @@ uint64_t cdf_check(const uint8_t *stream, size_t length, uint64_t answer[1]);
 /* Returns the number of cdf_check. Beside CDF_INCOMPLETE the last open unit is the one that lacks something, and the ids are those
  * that it could still have had; there is at least one. 0 and 3 to 10. */
 uint64_t cdf_explain(const uint8_t *stream, size_t length, uint64_t answer[25]);
+
+/* Which of two values counts: the value of a field in the first of two streams that has it. 4 numbers are written at each call. */
+#define CDF_LOOKUP_NUMBERS 4
+#define CDF_LOOKUP_OFFSET 0     /* beside a number of cdf_check its offset, and else 0 */
+#define CDF_LOOKUP_WHICH 1      /* the stream that the value stands in: 1 or 2, and 0 on a refusal */
+#define CDF_LOOKUP_START 2      /* where the value starts in that stream; 0 on a refusal */
+#define CDF_LOOKUP_LENGTH 3     /* how many bytes it has; 0 on a refusal */
+
+/* In the first stream, and then in the second, the first template of this name whose first key is that key is searched for the first
+ * field of this name; if it has none, no later template of that stream is tried. key_id is 6 for a temporary key, whose bytes are its
+ * number in four, the high byte first, or 7 for a template key, whose bytes are its text; with any other nothing is found. Names are
+ * given as they stand in a stream, their count byte first: "\6PERSON" has 7 bytes. An empty value is found too: its length is 0, and its
+ * start is where it stands. Nothing is copied: the value is the part of the first or the second stream from start on.
+ *
+ * Refused are, in this order: the first stream, then the second, with the number and offset of cdf_check, and the answer does not say
+ * which of the two that was; with CDF_PLACE a root that is no E/R data group, in either; with CDF_NOT_FOUND a field that neither has.
+ * 0, 3 to 10 and 15. */
+uint64_t cdf_lookup(const uint8_t *first, size_t first_length, const uint8_t *second, size_t second_length,
+                    const uint8_t *template_name, size_t template_length, uint64_t key_id, const uint8_t *key, size_t key_length,
+                    const uint8_t *field, size_t field_length, uint64_t answer[4]);
 
 /* The reader keeps nothing between calls. All it knows is in a place, 20 numbers that the caller holds; copy it to come back
  * to it. Fill it by cdf_first; all zeros is the empty place. */

@@ -9,8 +9,19 @@ pub type Answer = [u64; 8];
 /// Offset; how many units are open; id and start of up to four, the root first; how many ids the innermost admits; up to
 /// fourteen ids, rising. Zeros beyond, and all zeros for an accepted stream.
 pub type Explanation = [u64; 25];
+/// Offset; which stream has the value, 1 or 2, or 0; start and length of the value.
+pub type Found = [u64; 4];
 /// Bytes written; how many units are open; state and start of each.
 pub type BuildPlace = [u64; 10];
+
+/// What a lookup asks for. The names have their count bytes.
+#[derive(Clone, Copy, Debug)]
+pub struct Question<'a> {
+    pub template: &'a [u8],
+    pub key_id: u64,
+    pub key: &'a [u8],
+    pub field: &'a [u8],
+}
 
 pub trait Archive {
     const NAME: &'static str;
@@ -25,11 +36,12 @@ pub trait Archive {
     fn build_next(buffer: &mut [u8], place: &mut BuildPlace, id: u64, action: u64, data: &[u8]) -> u64;
     fn build_finish(buffer: &[u8], place: &BuildPlace, answer: &mut [u64; 1]) -> u64;
     fn listing(stream: &[u8], text: &mut [u8], answer: &mut [u64; 1]) -> u64;
+    fn lookup(first: &[u8], second: &[u8], question: &Question, answer: &mut Found) -> u64;
 }
 
 macro_rules! archive {
     ($archive:ident, $name:literal, $check:ident, $explain:ident, $first:ident, $next:ident, $walk:ident,
-     $replay:ident, $build_first:ident, $build_next:ident, $build_finish:ident, $listing:ident) => {
+     $replay:ident, $build_first:ident, $build_next:ident, $build_finish:ident, $listing:ident, $lookup:ident) => {
         extern "C" {
             fn $check(stream: *const u8, length: usize, answer: &mut [u64; 1]) -> u64;
             fn $explain(stream: *const u8, length: usize, answer: &mut Explanation) -> u64;
@@ -62,6 +74,20 @@ macro_rules! archive {
                 text: *mut u8,
                 text_length: usize,
                 answer: &mut [u64; 1],
+            ) -> u64;
+            fn $lookup(
+                first: *const u8,
+                first_length: usize,
+                second: *const u8,
+                second_length: usize,
+                template: *const u8,
+                template_length: usize,
+                key_id: u64,
+                key: *const u8,
+                key_length: usize,
+                field: *const u8,
+                field_length: usize,
+                answer: &mut Found,
             ) -> u64;
         }
 
@@ -115,6 +141,26 @@ macro_rules! archive {
             fn listing(stream: &[u8], text: &mut [u8], answer: &mut [u64; 1]) -> u64 {
                 unsafe { $listing(stream.as_ptr(), stream.len(), text.as_mut_ptr(), text.len(), answer) }
             }
+            #[inline(always)]
+            fn lookup(first: &[u8], second: &[u8], question: &Question, answer: &mut Found) -> u64 {
+                let Question { template, key_id, key, field } = *question;
+                unsafe {
+                    $lookup(
+                        first.as_ptr(),
+                        first.len(),
+                        second.as_ptr(),
+                        second.len(),
+                        template.as_ptr(),
+                        template.len(),
+                        key_id,
+                        key.as_ptr(),
+                        key.len(),
+                        field.as_ptr(),
+                        field.len(),
+                        answer,
+                    )
+                }
+            }
         }
     };
 }
@@ -131,7 +177,8 @@ archive!(
     cdf_build_first,
     cdf_build_next,
     cdf_build_finish,
-    cdf_listing
+    cdf_listing,
+    cdf_lookup
 );
 #[cfg(before)]
 archive!(
@@ -146,7 +193,8 @@ archive!(
     before_cdf_build_first,
     before_cdf_build_next,
     before_cdf_build_finish,
-    before_cdf_listing
+    before_cdf_listing,
+    before_cdf_lookup
 );
 
 /// The proved loop of FIRST and NEXTs, folded: it is no part of the joined archive.

@@ -1,7 +1,8 @@
 //! The codes that are timed, by part: the first two of a part are plain Rust, inlined and out of line.
 
-use crate::archive::{proved_walk, Archive, Explanation, Now};
+use crate::archive::{proved_walk, Archive, Explanation, Found, Now, Question};
 use crate::plain::{check, explain, replay, walk, INLINED, OUT_OF_LINE};
+use crate::plain_lookup::lookup;
 use crate::plain_write::{listing, Builder};
 use crate::rules::{opens, Unit};
 
@@ -13,12 +14,39 @@ pub struct Request {
     end: usize,
 }
 
-/// A stream, a refused copy, the codes that replay the stream to its end, and the requests that build it.
+/// A stream with one value more than that of its case, and the units of that value: its template, the template's first key
+/// and the field.
+pub struct Second {
+    pub stream: Vec<u8>,
+    pub units: [Unit; 3],
+}
+
+impl Second {
+    #[inline(always)]
+    pub fn question(&self) -> Question<'_> {
+        question(&self.stream, &self.units)
+    }
+}
+
+/// What asks for the value of a field, by the units of a stream that `Second` says.
+#[inline(always)]
+pub fn question<'a>(stream: &'a [u8], [template, key, field]: &[Unit; 3]) -> Question<'a> {
+    Question {
+        template: &stream[template.start + 6..template.own],
+        key_id: key.id as u64,
+        key: &stream[key.start + 6..key.end],
+        field: &stream[field.start + 6..field.own],
+    }
+}
+
+/// A stream, a refused copy, the codes that replay the stream to its end, the requests that build it, and of an E/R group
+/// to be timed the second stream of its lookup.
 pub struct Case {
     pub stream: Vec<u8>,
     pub refused: Vec<u8>,
     pub calls: Vec<u8>,
     pub requests: Vec<Request>,
+    pub second: Option<Second>,
 }
 
 impl Case {
@@ -36,7 +64,7 @@ impl Case {
             data: unit.start + 6,
             end: if opens(unit.id) { unit.own } else { unit.end },
         });
-        Case { refused, calls, requests: requests.collect(), stream }
+        Case { refused, calls, requests: requests.collect(), stream, second: None }
     }
 
     #[inline(always)]
@@ -51,6 +79,7 @@ pub const LISTING_ROOM: usize = 207_527;
 /// What the codes write into.
 pub struct Scratch {
     pub explanation: Explanation,
+    pub found: Found,
     pub log: Vec<u64>,
     pub buffer: Vec<u8>,
     pub text: Vec<u8>,
@@ -61,6 +90,7 @@ impl Scratch {
     pub fn new() -> Scratch {
         Scratch {
             explanation: [0; 25],
+            found: [0; 4],
             log: vec![0; 9 * 11_000],
             buffer: vec![0; 65_535],
             text: vec![0; LISTING_ROOM],
@@ -80,6 +110,8 @@ pub struct Part {
     pub codes: Vec<Code>,
     /// Pairs of codes: the first one's time is also given by that of the second, which does other work than the part's.
     pub by: Vec<(usize, usize)>,
+    /// How many bytes of a case the part reads or writes: none if the part is not timed on it.
+    pub bytes: fn(&Case) -> usize,
 }
 
 fn plain_check<const CALLS: bool>(case: &Case, _: &mut Scratch) -> u64 {
@@ -167,33 +199,60 @@ fn counted_listing<A: Archive>(case: &Case, scratch: &mut Scratch) -> u64 {
     A::listing(&case.stream, &mut scratch.text[..1], &mut answer) + answer[0]
 }
 
-fn version<A: Archive>(parts: &mut [Part; 6]) {
-    let runs: [(&str, fn(&Case, &mut Scratch) -> u64); 6] = [
+/// The second stream of a case that a lookup is timed on.
+#[inline(always)]
+fn second(case: &Case) -> &Second {
+    case.second.as_ref().expect("a lookup is timed on two streams")
+}
+
+fn plain_lookup<const CALLS: bool>(case: &Case, scratch: &mut Scratch) -> u64 {
+    let second = second(case);
+    lookup::<CALLS>(&case.stream, &second.stream, &second.question(), &mut scratch.found)
+}
+
+fn proved_lookup<A: Archive>(case: &Case, scratch: &mut Scratch) -> u64 {
+    let second = second(case);
+    A::lookup(&case.stream, &second.stream, &second.question(), &mut scratch.found)
+}
+
+fn both_checks<A: Archive>(case: &Case, _: &mut Scratch) -> u64 {
+    let (mut one, mut other) = ([0], [0]);
+    A::check(&case.stream, &mut one) + A::check(&second(case).stream, &mut other) + one[0] + other[0]
+}
+
+fn version<A: Archive>(parts: &mut [Part; 7]) {
+    let runs: [(&str, fn(&Case, &mut Scratch) -> u64); 7] = [
         ("cdf_check", proved_check::<A>),
         ("cdf_explain", proved_explain::<A>),
         ("cdf_first, cdf_next, from C", |case, _| A::walk(&case.stream)),
         ("cdf_replay", proved_replay::<A>),
         ("cdf_build_*", proved_build::<A>),
         ("cdf_listing", proved_listing::<A>),
+        ("cdf_lookup", proved_lookup::<A>),
     ];
     for (part, (name, run)) in parts.iter_mut().zip(runs) {
         part.codes.push(Code { name: format!("{}{name}", A::NAME), run });
     }
-    let codes = &mut parts[1].codes;
-    codes.push(Code { name: format!("{}cdf_check, refused", A::NAME), run: refused_check::<A> });
-    let by = (codes.len() - 2, codes.len() - 1);
-    parts[1].by.push(by);
+    let checks: [(usize, &str, fn(&Case, &mut Scratch) -> u64); 2] =
+        [(1, "cdf_check, refused", refused_check::<A>), (6, "cdf_check, both", both_checks::<A>)];
+    for (at, name, run) in checks {
+        let codes = &mut parts[at].codes;
+        codes.push(Code { name: format!("{}{name}", A::NAME), run });
+        let by = (codes.len() - 2, codes.len() - 1);
+        parts[at].by.push(by);
+    }
     parts[5].codes.push(Code { name: format!("{}cdf_listing, no room", A::NAME), run: counted_listing::<A> });
 }
 
-pub fn parts() -> [Part; 6] {
+pub fn parts() -> [Part; 7] {
     fn part(
         name: &'static str,
         inlined: fn(&Case, &mut Scratch) -> u64,
         out_of_line: fn(&Case, &mut Scratch) -> u64,
     ) -> Part {
         let code = |form, run| Code { name: format!("{name}: plain, {form}"), run };
-        Part { name, codes: vec![code("inlined", inlined), code("out of line", out_of_line)], by: Vec::new() }
+        let codes = vec![code("inlined", inlined), code("out of line", out_of_line)];
+        Part { name, codes, by: Vec::new(), bytes: |case| case.stream.len() }
     }
     let mut parts = [
         part("check", plain_check::<INLINED>, plain_check::<OUT_OF_LINE>),
@@ -202,7 +261,9 @@ pub fn parts() -> [Part; 6] {
         part("replay", plain_replay::<INLINED>, plain_replay::<OUT_OF_LINE>),
         part("builder", plain_build::<INLINED>, plain_build::<OUT_OF_LINE>),
         part("listing", plain_listing::<INLINED>, plain_listing::<OUT_OF_LINE>),
+        part("lookup", plain_lookup::<INLINED>, plain_lookup::<OUT_OF_LINE>),
     ];
+    parts[6].bytes = |case| case.second.as_ref().map_or(0, |second| case.stream.len() + second.stream.len());
     parts[2].codes.push(Code { name: "cdf_walk".to_string(), run: |case, _| proved_walk(&case.stream) });
     version::<Now>(&mut parts);
     #[cfg(before)]

@@ -1,15 +1,15 @@
 //! That the proved code gives plain Rust's answers: nothing is timed before.
 
 use crate::archive::{proved_walk, Archive, Explanation, Now, LAST};
-use crate::codes::{plain_build, proved_build, Case, Scratch, LISTING_ROOM};
+use crate::codes::{plain_build, proved_build, Case, Scratch, Second, LISTING_ROOM};
 use crate::plain::{check, explain, fold_stop, fold_unit, replay, walk, Reader, INLINED, OUT_OF_LINE};
 use crate::plain_write::{listing, Builder};
 use crate::rules::{Stop, Unit};
-use crate::streams::{damaged, samples, Random, Sample, Set};
+use crate::streams::{damaged, one_field_more, samples, Random, Sample, Set};
 
 /// What plain Rust says of some bytes: the units handed out, what comes after the last, and why it is a refusal.
-struct Expected {
-    units: Vec<Unit>,
+pub struct Expected {
+    pub units: Vec<Unit>,
     stop: Stop,
     explanation: Explanation,
 }
@@ -20,7 +20,7 @@ impl Expected {
     }
 
     /// The check's number, and its count or offset.
-    fn check(&self) -> (u64, u64) {
+    pub fn check(&self) -> (u64, u64) {
         match self.stop.number {
             1 => (0, self.units.len() as u64),
             number => (number as u64, self.stop.offset as u64),
@@ -28,7 +28,7 @@ impl Expected {
     }
 }
 
-fn read(bytes: &[u8]) -> Expected {
+pub fn read(bytes: &[u8]) -> Expected {
     let mut units = Vec::new();
     let stop = match Reader::first(bytes) {
         Err(stop) => stop,
@@ -51,11 +51,25 @@ fn read(bytes: &[u8]) -> Expected {
 pub fn case(stream: Vec<u8>) -> Case {
     let Expected { units, stop, .. } = read(&stream);
     assert_eq!(stop.number, 1, "a stream to be timed is accepted");
-    let case = Case::new(stream, &units);
+    let mut case = Case::new(stream, &units);
+    if units[0].id == 4 {
+        case.second = Some(second(&case.stream, &units));
+    }
     let refused = read(&case.refused);
     let last = units.last().expect("a stream has a root").start;
     assert_eq!(refused.stop, Stop { number: 7, offset: last }, "the copy is refused at its last unit");
     case
+}
+
+/// The second stream of a lookup: its last template has one field more, and the value of that is looked up. The template
+/// stands last in the first stream too, without the field, so all templates of both are passed.
+fn second(first: &[u8], units: &[Unit]) -> Second {
+    let stream = one_field_more(first, units, b"Larsen");
+    let Expected { units, stop, .. } = read(&stream);
+    assert_eq!(stop.number, 1, "a stream to be timed is accepted");
+    let template = units.iter().rposition(|unit| unit.id == 5).expect("the last unit stands in a template");
+    let units = [units[template], units[template + 1], units[units.len() - 1]];
+    Second { stream, units }
 }
 
 /// What request a of document 02 says of a sample.
@@ -210,7 +224,7 @@ fn assert_archive<A: Archive>(label: &str, case: &Case, expected: &Expected) {
 }
 
 /// How often each of these numbers was met: all of them were.
-fn list(met: &[usize], numbers: &[usize]) -> String {
+pub fn list(met: &[usize], numbers: &[usize]) -> String {
     assert!(numbers.iter().all(|number| met[*number] > 0), "a number is never met: {met:?}");
     numbers.iter().map(|number| format!("{number}: {}", met[*number])).collect::<Vec<_>>().join(", ")
 }

@@ -4,7 +4,9 @@
 mod archive;
 mod codes;
 mod compare;
+mod compare_lookup;
 mod plain;
+mod plain_lookup;
 mod plain_write;
 mod rules;
 mod streams;
@@ -19,5 +21,6 @@ fn main() {
     parts.retain(|part| named.is_empty() || named.iter().any(|name| part.name == name));
     let sets = sets();
     compare::assert_equal(&sets);
+    compare_lookup::assert_equal(&sets);
     timing::tables(&parts, &sets, &SIZES, rounds);
 }

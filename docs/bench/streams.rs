@@ -24,7 +24,7 @@ impl Random {
         least + self.below(most - least + 1)
     }
 
-    fn pick<T: Copy>(&mut self, from: &[T]) -> T {
+    pub fn pick<T: Copy>(&mut self, from: &[T]) -> T {
         from[self.below(from.len())]
     }
 
@@ -34,7 +34,7 @@ impl Random {
 }
 
 /// A unit with its own data and the units nested in it, as bytes.
-fn unit(id: u8, action: u8, own: &[u8], nested: &[u8]) -> Vec<u8> {
+pub fn unit(id: u8, action: u8, own: &[u8], nested: &[u8]) -> Vec<u8> {
     let length = u16::try_from(6 + own.len() + nested.len()).expect("a stream has at most 65,535 bytes");
     let [high, low] = length.to_be_bytes();
     [&[0xCD, 0xF1, high, low, action, id], own, nested].concat()
@@ -176,11 +176,21 @@ pub fn damaged(stream: &[u8], units: &[Unit], random: &mut Random) -> Vec<u8> {
     bytes
 }
 
-/// A copy with one more key, of either kind, behind this one; the lengths of the units around it are mended.
+/// A copy with one more key, of either kind, behind this one.
 fn one_key_more(stream: &[u8], units: &[Unit], key: &Unit, random: &mut Random) -> Vec<u8> {
-    let more = unit(random.pick(&[6, 7]), 0, &random.bytes(4), &[]);
-    let mut bytes = [&stream[..key.end], &more, &stream[key.end..]].concat();
-    for around in units.iter().filter(|unit| opens(unit.id) && unit.start < key.start && key.end <= unit.end) {
+    insert(stream, units, key, &unit(random.pick(&[6, 7]), 0, &random.bytes(4), &[]))
+}
+
+/// A copy with one more field behind the last unit, of a name that no other unit has.
+pub fn one_field_more(stream: &[u8], units: &[Unit], value: &[u8]) -> Vec<u8> {
+    let last = units.last().expect("a stream has a root");
+    insert(stream, units, last, &unit(8, 1, &[b"\x0BMAIDEN_NAME", value].concat(), &[]))
+}
+
+/// A copy with one more unit behind this one; the lengths of the units around it are mended.
+fn insert(stream: &[u8], units: &[Unit], behind: &Unit, more: &[u8]) -> Vec<u8> {
+    let mut bytes = [&stream[..behind.end], more, &stream[behind.end..]].concat();
+    for around in units.iter().filter(|unit| opens(unit.id) && unit.start < behind.start && behind.end <= unit.end) {
         set_length(&mut bytes, around.start, around.end - around.start + more.len());
     }
     bytes

@@ -13,7 +13,7 @@ const PLAIN: usize = 2;
 fn time(part: &Part, set: &Set, rounds: usize) -> Vec<Vec<f64>> {
     const RUNS: usize = 5;
     let codes = &part.codes;
-    let bytes = set.cases.iter().map(|case| case.stream.len()).sum::<usize>() as f64;
+    let bytes = set.cases.iter().map(part.bytes).sum::<usize>() as f64;
     let scratch = &mut Scratch::new();
     let mut times = vec![vec![0.0; rounds]; codes.len()];
     for round in 0..rounds {
@@ -62,6 +62,9 @@ pub fn tables(parts: &[Part], sets: &[Set], sizes: &[usize], rounds: usize) {
     for part in parts {
         for kind in 0..kinds {
             let of_kind: Vec<&Set> = sets.iter().skip(kind).step_by(kinds).collect();
+            if of_kind.iter().any(|set| set.cases.iter().any(|case| (part.bytes)(case) == 0)) {
+                continue;
+            }
             let times: Vec<_> = of_kind.iter().map(|set| time(part, set, rounds)).collect();
             for (at, code) in part.codes.iter().enumerate() {
                 let names = [code.name.clone(), of_kind[0].name.to_string()];

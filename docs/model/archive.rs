@@ -1,6 +1,7 @@
 //! The functions of the archive, called as C calls them.
 
-use cdf_model::numbers::{BuilderNumbers, ExplanationNumbers, ReaderNumbers};
+use cdf_model::lookup::Asked;
+use cdf_model::numbers::{BuilderNumbers, ExplanationNumbers, FoundNumbers, ReaderNumbers};
 use cdf_model::reader::Call;
 
 type ReaderCall = unsafe extern "C" fn(*const u8, usize, *mut u64, *mut u64) -> u64;
@@ -24,6 +25,20 @@ extern "C" {
     ) -> u64;
     fn cdf_listing(stream: *const u8, n: usize, text: *mut u8, ntext: usize, answer: *mut u64) -> u64;
     fn cdf_explain(stream: *const u8, n: usize, answer: *mut u64) -> u64;
+    fn cdf_lookup(
+        first: *const u8,
+        nfirst: usize,
+        second: *const u8,
+        nsecond: usize,
+        template: *const u8,
+        ntemplate: usize,
+        key_id: u64,
+        key: *const u8,
+        nkey: usize,
+        field: *const u8,
+        nfield: usize,
+        answer: *mut u64,
+    ) -> u64;
     fn cdf_build_first(buffer: *mut u8, n: usize, root: u64, place: *mut u64) -> u64;
     fn cdf_build_next(
         buffer: *mut u8,
@@ -84,7 +99,7 @@ fn answered(call: impl FnOnce(*mut u64) -> u64) -> (u64, u64) {
 }
 
 // SAFETY of all calls: each pointer is that of a slice with the length beside it, or null with length 0, or that of an
-// array of the size that the function asks; none overlaps another.
+// array of the size that the function asks; none that may be written overlaps another.
 
 pub fn check(stream: &[u8]) -> (u64, u64) {
     answered(|answer| unsafe { cdf_check(pointer(stream), stream.len(), answer) })
@@ -122,6 +137,28 @@ pub fn listing(stream: &[u8], text: &mut [u8]) -> (u64, u64) {
 pub fn explain(stream: &[u8]) -> (u64, ExplanationNumbers) {
     let mut answer = [UNWRITTEN; 25];
     let number = guarded(&mut answer, |answer| unsafe { cdf_explain(pointer(stream), stream.len(), answer) });
+    (number, answer)
+}
+
+pub fn lookup(first: &[u8], second: &[u8], asked: &Asked) -> (u64, FoundNumbers) {
+    let Asked { template, key_id, key, field } = asked;
+    let mut answer = [UNWRITTEN; 4];
+    let number = guarded(&mut answer, |answer| unsafe {
+        cdf_lookup(
+            pointer(first),
+            first.len(),
+            pointer(second),
+            second.len(),
+            pointer(template),
+            template.len(),
+            *key_id,
+            pointer(key),
+            key.len(),
+            pointer(field),
+            field.len(),
+            answer,
+        )
+    });
     (number, answer)
 }
 

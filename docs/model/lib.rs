@@ -1,4 +1,4 @@
-//! A second implementation of document 01, and of requests a) to c) of 02, in plain Rust, written from the documents and not
+//! A second implementation of document 01, and of requests a) to d) of 02, in plain Rust, written from the documents and not
 //! from the proved code.
 
 pub mod build_cases;
@@ -8,6 +8,8 @@ pub mod builder;
 pub mod cases;
 pub mod check;
 pub mod explain;
+pub mod lookup;
+pub mod lookup_samples;
 mod named;
 pub mod numbers;
 pub mod plain;

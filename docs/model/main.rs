@@ -1,4 +1,4 @@
-//! Compares an archive of the library with the model on random streams, calls, places and requests.
+//! Compares an archive of the library with the model on random streams, calls, places, requests and lookups.
 //!   diff SECONDS SEED   for so long
 //!   diff long SEED      until the figures of `LONG` are reached, with a progress line
 
@@ -6,6 +6,8 @@ mod archive;
 mod builders;
 mod consistency;
 mod keys;
+mod looked_up;
+mod lookups;
 mod places;
 mod pointed;
 mod readers;
@@ -14,6 +16,8 @@ mod tally;
 use cdf_model::cases::cases;
 use cdf_model::check::check;
 use cdf_model::explain::explain;
+use cdf_model::lookup::lookup;
+use cdf_model::lookup_samples::lookups;
 use cdf_model::random::Random;
 use cdf_model::rules::Refusal;
 use cdf_model::samples::{samples, KEYS, POINTED, TOLD};
@@ -88,6 +92,7 @@ fn round(tally: &mut Tally) {
     tally.count(kind);
     readers::compare(tally, &stream, tree.as_ref(), random);
     builders::compare(tally, random);
+    lookups::compare(tally, random);
     tally.round += 1;
 }
 
@@ -108,6 +113,10 @@ fn fixed(tally: &mut Tally) {
         let told = explain(labelled(label));
         let units: Vec<(u64, u64)> = told.open.iter().map(|unit| (unit.id, unit.start)).collect();
         assert_eq!((&units[..], &told.ids[..]), (open, ids), "{label}");
+    }
+    for (label, [first, second], asked, owed) in lookups() {
+        assert_eq!(lookup(&first, &second, &asked), owed, "{label}");
+        lookups::compare_lookup(tally, &first, &second, &asked);
     }
     for (_, bytes) in &cases {
         readers::compare_check(tally, bytes);

@@ -3,6 +3,9 @@
 //!   model explain FILE why it is refused, in numbers: the check's number and offset; how many units are open, id and start
 //!                      of each; how many ids may stand there, and these
 //!   model list FILE    what the listing program writes
+//!   model lookup FIRST SECOND TEMPLATE KEY_ID KEY FIELD
+//!                      which value counts in two files, in numbers: number, offset, which file, start and length; names
+//!                      with their count byte and keys are written as pairs of hexadecimal digits
 //!   model inputs       the stored cases of the check, as cdf_check_cases reads them
 //!   model answers      the check's answer to each
 //!   model build-inputs the stored cases of the builder, as cdf_build_cases reads them
@@ -12,6 +15,7 @@
 use cdf_model::build_cases::build_cases;
 use cdf_model::build_run::BuildCase;
 use cdf_model::explain::{explain, Explanation};
+use cdf_model::lookup::{lookup, Asked, Found};
 use cdf_model::{cases, check, samples};
 use std::fs::File;
 use std::io::{self, Read, Write};
@@ -32,6 +36,21 @@ fn told(stream: &[u8]) -> String {
     numbers.iter().map(u64::to_string).collect::<Vec<_>>().join(" ")
 }
 
+/// Bytes that are written as pairs of hexadecimal digits.
+fn bytes(digits: &str) -> Option<Vec<u8>> {
+    let pairs = digits.as_bytes().chunks(2).map(|pair| std::str::from_utf8(pair).ok().filter(|pair| pair.len() == 2));
+    pairs.map(|pair| u8::from_str_radix(pair?, 16).ok()).collect()
+}
+
+fn asked(template: &str, key_id: &str, key: &str, field: &str) -> Option<Asked> {
+    Some(Asked { template: bytes(template)?, key_id: key_id.parse().ok()?, key: bytes(key)?, field: bytes(field)? })
+}
+
+fn found(first: &[u8], second: &[u8], asked: &Asked) -> String {
+    let Found { number, offset, which, part: (start, length) } = lookup(first, second, asked);
+    format!("{number} {offset} {which} {start} {length}")
+}
+
 /// The first 65,536 bytes: one more than a stream may have.
 fn read(path: &str) -> io::Result<Vec<u8>> {
     let mut bytes = Vec::new();
@@ -49,18 +68,23 @@ fn main() -> io::Result<()> {
         ["check", path] => answer(&read(path)?) + "\n",
         ["explain", path] => told(&read(path)?) + "\n",
         ["list", path] => check::listing(&read(path)?),
+        ["lookup", first, second, template, key_id, key, field] => match asked(template, key_id, key, field) {
+            Some(asked) => found(&read(first)?, &read(second)?, &asked) + "\n",
+            None => usage(),
+        },
         ["inputs"] => lines(|bytes| ":".to_string() + &cases::written(bytes)),
         ["answers"] => lines(|bytes| " ".to_string() + &answer(bytes)),
         ["build-inputs"] => build_cases().iter().map(BuildCase::input).collect(),
         ["build-answers"] => build_cases().iter().map(BuildCase::answer).collect(),
-        _ => {
-            eprintln!(
-                "usage: model check FILE | explain FILE | list FILE | inputs | answers | build-inputs | build-answers"
-            );
-            std::process::exit(2);
-        }
+        _ => usage(),
     };
     io::stdout().write_all(text.as_bytes())
+}
+
+fn usage() -> ! {
+    eprintln!("usage: model check FILE | explain FILE | list FILE | lookup FIRST SECOND TEMPLATE KEY_ID KEY FIELD");
+    eprintln!("       model inputs | answers | build-inputs | build-answers");
+    std::process::exit(2);
 }
 
 /// A line for each case: its label, and what is said of its bytes.

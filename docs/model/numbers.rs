@@ -1,14 +1,16 @@
-//! Places, answers and logs as the numbers that cross the C boundary.
+//! Places, answers, explanations, lookups and logs as the numbers that cross the C boundary.
 
 use crate::builder;
 use crate::check::listing;
 use crate::explain::Explanation;
+use crate::lookup::Found;
 use crate::reader::{self, call, Call, Open, Place, Reply};
 use crate::rules::{Had, Unit};
 
 pub type ReaderNumbers = [u64; 20];
 pub type BuilderNumbers = [u64; 10];
 pub type ExplanationNumbers = [u64; 25];
+pub type FoundNumbers = [u64; 4];
 
 /// The states, from 1 on: an id, and what such a unit has had.
 const STATES: [(u64, Had); 30] = [
@@ -143,6 +145,11 @@ pub fn explanation(told: &Explanation) -> ExplanationNumbers {
     numbers[10] = told.ids.len() as u64;
     numbers[11..11 + told.ids.len()].copy_from_slice(&told.ids);
     numbers
+}
+
+/// Offset; which stream; the part's start and length.
+pub fn found(found: &Found) -> FoundNumbers {
+    [found.offset, found.which, found.part.0, found.part.1]
 }
 
 /// The calls that a list of codes may name, from code 1 on.

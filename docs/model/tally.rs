@@ -1,6 +1,7 @@
 //! What was compared, how often, and with which numbers; and the end of a run at the first difference.
 
 use crate::keys::TOO_MANY;
+use crate::looked_up::LOOKED_UP;
 use crate::pointed::{Byte, BYTES};
 use cdf_model::explain::Explanation;
 use cdf_model::rules::Had;
@@ -20,6 +21,7 @@ pub enum Function {
     Replay,
     Listing,
     Explain,
+    Lookup,
     BuildFirst,
     BuildNext,
     AddStream,
@@ -40,7 +42,7 @@ impl From<reader::Call> for Function {
 }
 
 /// The numbers that each function can give.
-const CAN_GIVE: [(&str, &[usize]); 14] = [
+const CAN_GIVE: [(&str, &[usize]); 15] = [
     ("cdf_check", &[0, 3, 4, 5, 6, 7, 8, 9, 10]),
     ("cdf_first", &[0, 3, 4, 5, 6, 7, 8]),
     ("cdf_next", &[0, 1, 2, 3, 4, 5, 6, 7, 8, 9, 10, 11]),
@@ -51,13 +53,14 @@ const CAN_GIVE: [(&str, &[usize]); 14] = [
     ("cdf_replay", &[0, 12]),
     ("cdf_listing", &[0, 12]),
     ("cdf_explain", &[0, 3, 4, 5, 6, 7, 8, 9, 10]),
+    ("cdf_lookup", &[0, 3, 4, 5, 6, 7, 8, 9, 10, 15]),
     ("cdf_build_first", &[0, 6, 7, 12]),
     ("cdf_build_next", &[0, 2, 6, 7, 8, 9, 10, 12, 13]),
     ("cdf_build_add_stream", &[0, 2, 7, 10, 12, 13, 14]),
     ("cdf_build_finish", &[0, 2, 10]),
 ];
 const READER: std::ops::Range<usize> = 1..7;
-const BUILDER: std::ops::Range<usize> = 10..14;
+const BUILDER: std::ops::Range<usize> = 11..15;
 
 /// The clauses of the reader's rule, by their place in it, that need not be missed alone: a place with no open unit gets
 /// 11, one with more than four has units of no kind, and a number that is no state tells no kind either.
@@ -96,7 +99,7 @@ const TEMPORARY: [&str; 4] = [
 pub struct Tally {
     pub seed: u64,
     pub round: u64,
-    met: [[u64; 15]; 14],
+    met: [[u64; 16]; CAN_GIVE.len()],
     kinds: BTreeMap<&'static str, u64>,
     /// How many hand-made places missed one clause alone.
     reader_missed: [u64; reader::CLAUSES.len()],
@@ -104,8 +107,9 @@ pub struct Tally {
     explained: [u64; EXPLAINED.len()],
     pointed: [u64; BYTES.len()],
     /// By function, of those that can give 7.
-    too_many: [[u64; TOO_MANY.len()]; 14],
+    too_many: [[u64; TOO_MANY.len()]; CAN_GIVE.len()],
     temporary: [u64; TEMPORARY.len()],
+    looked_up: [u64; LOOKED_UP.len()],
 }
 
 impl Tally {
@@ -113,14 +117,15 @@ impl Tally {
         Tally {
             seed,
             round: 0,
-            met: [[0; 15]; 14],
+            met: [[0; 16]; CAN_GIVE.len()],
             kinds: BTreeMap::new(),
             reader_missed: [0; reader::CLAUSES.len()],
             builder_missed: [0; builder::CLAUSES.len()],
             explained: [0; EXPLAINED.len()],
             pointed: [0; BYTES.len()],
-            too_many: [[0; TOO_MANY.len()]; 14],
+            too_many: [[0; TOO_MANY.len()]; CAN_GIVE.len()],
             temporary: [0; TEMPORARY.len()],
+            looked_up: [0; LOOKED_UP.len()],
         }
     }
 
@@ -196,6 +201,14 @@ impl Tally {
         self.pointed[byte as usize] += 1;
     }
 
+    /// A lookup that was all these of `LOOKED_UP`.
+    pub fn looked_up(&mut self, kinds: &[&str]) {
+        for kind in kinds {
+            let which = LOOKED_UP.iter().position(|label| label == kind);
+            self.looked_up[which.expect(kind)] += 1;
+        }
+    }
+
     fn calls(&self, of: std::ops::Range<usize>) -> u64 {
         self.met[of].iter().flatten().sum()
     }
@@ -216,7 +229,8 @@ impl Tally {
     }
 
     /// Prints the figures. False if a number was not met that the function can give, or met that it cannot, or if a clause
-    /// was never missed alone, a kind of refusal not explained, a kind of byte not named, or a kind of key not refused.
+    /// was never missed alone, a kind of refusal not explained, a kind of byte not named, a kind of key not refused, or a
+    /// kind of lookup not made.
     pub fn report(&self) -> bool {
         let mut good = true;
         println!("compared:");
@@ -256,6 +270,7 @@ impl Tally {
             good &= each_met(&keys, &TOO_MANY, &self.too_many[function as usize], &[]);
         }
         good &= each_met("hand-made places that fit, and their innermost unit", &TEMPORARY, &self.temporary, &[]);
+        good &= each_met("lookups", &LOOKED_UP, &self.looked_up, &[]);
         good
     }
 }

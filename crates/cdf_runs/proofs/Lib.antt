@@ -5,4 +5,5 @@ pub mod Steps
 pub mod Readings
 pub mod Handed
 pub mod Further
+pub mod Folding
 pub mod Proved

@@ -1,6 +1,6 @@
 -- The number into which a walk folds the units that it is handed and the answer that ends it.
 use Prim.Native.Nat.{ℕ, _*_, _/_, _%_, _^_}
-use mathlib.Core.List.{List, [], _∷_}
+use mathlib.Core.List.{List, foldl}
 use lib.Bits.{bitOr, bitXor}
 use Rattle.cdf_prefix.specs.Layout.{Layout}
 use Rattle.cdf_units.specs.Units.{listing}
@@ -21,15 +21,11 @@ mixOf h u =
     (up 48 (u .id)))
     (up 56 (u .action))
 
-unfoldable pub foldUnits : ℕ → List Unit → ℕ
-foldUnits h [] = h
-foldUnits h (u ∷ us) = foldUnits (mixOf h u) us
-
 -- The number that ends the walk, and its offset.
 abbrev pub mixEnd : ℕ → ℕ → ℕ → ℕ
 mixEnd h number offset = bitXor (bitXor h (up 57 number)) (up 3 offset)
 
 -- A whole walk: the unit list, and then the end or the check's number and offset.
 unfoldable pub walkOf : Layout → List ℕ → ℕ
-unfolding foldUnits listing checkOf afterwards
-walkOf l s = mixEnd (foldUnits 0 (listing l s .units)) (afterwards (checkOf l s) .number) (afterwards (checkOf l s) .offset)
+unfolding listing checkOf afterwards
+walkOf l s = mixEnd (foldl mixOf 0 (listing l s .units)) (afterwards (checkOf l s) .number) (afterwards (checkOf l s) .offset)

@@ -7,12 +7,14 @@ use Rattle.cdf_prefix.specs.Layout.{layoutOf}
 use Rattle.cdf_prefix.specs.declared.Edition.the-variants.{First}
 use Rattle.cdf_reader.specs.View.{view, replyOf}
 use Rattle.cdf_runs.proofs.Further.{first-later, next-later, ahead, less}
-use Rattle.cdf_walk.proofs.Walking.{Going, begun, on, ended-walk}
+use Rattle.cdf_runs.proofs.Folding.{Going, begun, turned}
+use Rattle.cdf_walk.specs.Fold.{mixOf}
+use Rattle.cdf_walk.proofs.Walking.{ended-walk}
 use Rattle.cdf_walk.proofs.cdf_walk.Statement.{statement}
 use Rattle.cdf_walk.proofs.cdf_walk.Tie as tie
 
 abbrev Inv-loop : tie.InvT-loop
-Inv-loop s a₀ h₀ a h = Going (layoutOf First) s (replyOf a) h × (a .number ≡ 0 → a .place .position ≤ length s)
+Inv-loop s a₀ h₀ a h = Going mixOf (layoutOf First) s 0 (replyOf a) h × (a .number ≡ 0 → a .place .position ≤ length s)
 
 abbrev μ-loop : tie.MeasureT-loop
 μ-loop s a₀ h₀ a h = ahead (layoutOf First) s (a .number) (a .place .position)
@@ -23,7 +25,7 @@ first-requires c κs = search needs
 loop-holds : tie.Need-loop-holds Inv-loop μ-loop
 loop-holds c =
     let s = c .before .before .args .s .now in (
-      begun (layoutOf First) s (replyOf (c .first .result)) (c .first .ensures .0),
+      begun mixOf (layoutOf First) s 0 (replyOf (c .first .result)) (c .first .ensures .0),
       λ z. (rw (← c .first .ensures .0) at (first-later (layoutOf First) s)) z .1,
     )
 
@@ -49,7 +51,8 @@ loop-again c =
     let s = turn .before .before .before .args .s .now in
     let a = turn .loop .a in
     let p = a .place in (
-      rw (c .next .ensures .0, c .before .before .mix .ensures) (on (layoutOf First) s (replyOf a) (turn .loop .h) (turn .loop .inv .0) (more .if1 .taken)),
+      rw (c .next .ensures .0, c .before .before .mix .ensures)
+          (turned mixOf (layoutOf First) s 0 (replyOf a) (turn .loop .h) (turn .loop .inv .0) (more .if1 .taken) .next),
       λ z. (rw (← c .next .ensures .0) at (next-later (layoutOf First) s (view p))) z .1,
     )
 

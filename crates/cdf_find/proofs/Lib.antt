@@ -1,0 +1,6 @@
+pub mod Telling
+pub mod Ordered
+pub mod Searching
+pub mod Streams
+pub mod Choosing
+pub mod Proved

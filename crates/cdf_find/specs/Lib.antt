@@ -1,0 +1,5 @@
+pub mod Find
+pub mod Search
+pub mod Chosen
+pub mod Samples
+pub mod Claims

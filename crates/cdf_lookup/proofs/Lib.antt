@@ -1,0 +1,5 @@
+pub mod Comparing
+pub mod Rooted
+pub mod Searched
+pub mod Deciding
+pub mod Parting

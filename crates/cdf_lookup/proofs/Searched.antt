@@ -1,0 +1,70 @@
+-- A search keeps what it has found in the bytes, and at the end has what the definition says.
+use Prim.Native.Nat.{ℕ}
+use mathlib.Core.Path.{_≡_, sym, ap, _∙_}
+use mathlib.Core.Bool.{true, false≢true}
+use mathlib.Core.List.{List}
+use native.Mathlib.Omega.{arith}
+use lib.Dec.{ltb}
+use lib.ListN.{length}
+use Rattle.cdf_table.specs.Ids.{template, field}
+use Rattle.cdf_table.proofs.Bools.{of-cond}
+use Rattle.cdf_prefix.specs.Layout.{Layout}
+use Rattle.cdf_units.specs.declared.Unit.{Unit}
+use Rattle.cdf_place.specs.Calls.{Reply, nextOf}
+use Rattle.cdf_runs.proofs.Folding.{Going, Turn, over}
+use Rattle.cdf_find.specs.Find.{Query, named, isThatKey}
+use Rattle.cdf_find.specs.Search.{advanceOf, outcomeOf, isOver, searchOf}
+use Rattle.cdf_find.specs.declared.Search.{Search}
+use Rattle.cdf_find.specs.declared.Search.the-variants.{Seeking, Named, Inside, Over}
+use Rattle.cdf_find.specs.declared.Value.the-variants.{At, Missing}
+use Rattle.cdf_find.proofs.Searching.{over-stays}
+use Rattle.cdf_lookup.specs.Parts.{Lies, Placed}
+
+pub nowhere : (n : ℕ) → Placed n Missing
+nowhere n start end e = let z : _≡_ {A = ℕ} 0 1 = cc in absurd (omega arith)
+
+module _ (l : Layout) (s : List ℕ) (q : Query) where
+  -- What one more unit leaves lies in the bytes.
+  placed-on : (n : ℕ) (state : Search) (u : Unit) → Lies l n u → Placed n (outcomeOf state) → Placed n (outcomeOf (advanceOf l s q state u))
+  unfolding advanceOf
+  placed-on n Seeking u lies p =
+      of-cond (λ (x : Search). Placed n (outcomeOf x)) (named l s template (q .template) u) _ _ (λ e. nowhere n) (λ e. nowhere n)
+  placed-on n (Named end) u lies p =
+      of-cond (λ (x : Search). Placed n (outcomeOf x)) (isThatKey l s (q .keyId) (q .key) u) _ _ (λ e. nowhere n) (λ e. nowhere n)
+  placed-on n (Inside end) u lies p =
+      of-cond (λ (x : Search). Placed n (outcomeOf x)) (ltb (u .start) end) _ _
+      (λ e. of-cond (λ (x : Search). Placed n (outcomeOf x)) (named l s field (q .field) u) _ _ (λ f. value) (λ f. nowhere n))
+      (λ e. nowhere n)
+    where
+      value : Placed n (At (u .own) (u .end))
+      value start end e =
+          let begins : start ≡ u .own = cc in
+          let ends : end ≡ u .end = cc in
+          (omega (arith, lies .end), omega (arith, lies .within))
+  placed-on n (Over v) u lies p = p
+
+  -- A unit was handed out, and r is the search with it.
+  module _ (a : Reply) (state : Search) (w : Turn (advanceOf l s q) l s Seeking a state) where
+    pub lies-in : Lies l (length s) (a .unit)
+    lies-in = record { own = w .own; end = w .end; within = w .within }
+
+    module _ (r : Search) (e : r ≡ advanceOf l s q state (a .unit)) where
+      pub goes-on : Going (advanceOf l s q) l s Seeking (nextOf l s (a .place)) r
+      goes-on = rw e (w .next)
+
+      pub keeps-place : Placed (length s) (outcomeOf state) → Placed (length s) (outcomeOf r)
+      keeps-place p = rw e (placed-on (length s) state (a .unit) lies-in p)
+
+  pub searched : (a : Reply) (state : Search) → Going (advanceOf l s q) l s Seeking a state → (a .number ≡ 0 → ⊥) →
+      outcomeOf state ≡ searchOf l s q
+  unfolding searchOf
+  searched a state g some = sym (ap outcomeOf (over (advanceOf l s q) l s Seeking a state g some .all))
+
+  -- A search that is over has it already.
+  pub over-early : (a : Reply) (state : Search) → Going (advanceOf l s q) l s Seeking a state → isOver state ≡ true →
+      outcomeOf state ≡ searchOf l s q
+  unfolding searchOf
+  over-early a Seeking g e = absurd (false≢true e)
+  over-early a (Named end) g e = absurd (false≢true e)
+  over-early a (Inside end) g e = absurd (false≢true e)
+  over-early a (Over v) g e = sym (ap outcomeOf (g .folded) ∙ over-stays l s q v (g .units))

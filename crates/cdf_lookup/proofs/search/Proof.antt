@@ -1,0 +1,140 @@
+-- The units are folded as they come, and what was found lies in the bytes. `turn` is the head of the loop, `step` where a unit was folded in.
+use Prim.Native.Nat.{ℕ, _≤_}
+use mathlib.Core.Path.{_≡_, sym, _∙_}
+use mathlib.Core.List.{List}
+use borrow.Author.Needs.{needs}
+use lib.ListN.{length}
+use Rattle.cdf_prefix.specs.Layout.{Layout, layoutOf}
+use Rattle.cdf_prefix.specs.declared.Edition.the-variants.{First}
+use Rattle.cdf_place.specs.Calls.{nextOf}
+use Rattle.cdf_reader.specs.View.{view, replyOf}
+use Rattle.cdf_runs.proofs.Further.{first-later, next-later, ahead, less}
+use Rattle.cdf_runs.proofs.Folding.{Going, begun, Turn, turned}
+use Rattle.cdf_find.specs.Find.{Query, query}
+use Rattle.cdf_find.specs.Search.{advanceOf, outcomeOf}
+use Rattle.cdf_find.specs.declared.Search.the-variants.{Seeking}
+use Rattle.cdf_lookup.specs.Parts.{Placed}
+use Rattle.cdf_lookup.proofs.Searched.{nowhere, lies-in, goes-on, keeps-place, searched, over-early}
+use Rattle.cdf_lookup.proofs.search.Statement.{statement}
+use Rattle.cdf_lookup.proofs.search.Tie as tie
+
+abbrev l : Layout
+l = layoutOf First
+
+abbrev Inv-loop : tie.InvT-loop
+Inv-loop s template kind key field a₀ state₀ a state =
+    Going (advanceOf l s (query template kind key field)) l s Seeking (replyOf a) state
+    × (a .number ≡ 0 → a .place .position ≤ length s)
+    × Placed (length s) (outcomeOf state)
+
+abbrev μ-loop : tie.MeasureT-loop
+μ-loop s template kind key field a₀ state₀ a state = ahead l s (a .number) (a .place .position)
+
+-- The bytes and what is asked for, at the head of the loop.
+abbrev bytes : tie.At-loop Inv-loop μ-loop → List ℕ
+bytes turn = turn .before .before .before .before .before .before .args .s .now
+
+abbrev asked : tie.At-loop Inv-loop μ-loop → Query
+asked turn =
+    let a = turn .before .before .before .before .before .before .args in
+    query (a .template .now) (a .kind) (a .key .now) (a .field .now)
+
+-- The unit in hand lies in the bytes, and the loop goes on from it.
+in-hand : (turn : tie.At-loop Inv-loop μ-loop) → turn .loop .a .number ≡ 0 →
+    Turn (advanceOf l (bytes turn) (asked turn)) l (bytes turn) Seeking (replyOf (turn .loop .a)) (turn .loop .state)
+in-hand turn z =
+    turned (advanceOf l (bytes turn) (asked turn)) l (bytes turn) Seeking (replyOf (turn .loop .a)) (turn .loop .state) (turn .loop .inv .0) z
+
+-- Where it was folded in.
+module _ (step : tie.After-advance Inv-loop μ-loop) where
+  abbrev head : tie.At-loop Inv-loop μ-loop
+  head = step .before .before .before .before
+
+  abbrev taken : head .loop .a .number ≡ 0
+  taken = step .before .before .if1 .taken
+
+  on : Going (advanceOf l (bytes head) (asked head)) l (bytes head) Seeking (nextOf l (bytes head) (view (head .loop .a .place)))
+      (step .advance .result)
+  on = goes-on l (bytes head) (asked head) (replyOf (head .loop .a)) (head .loop .state) (in-hand head taken) _ (step .advance .ensures)
+
+  placed : Placed (length (bytes head)) (outcomeOf (step .advance .result))
+  placed =
+      keeps-place l (bytes head) (asked head) (replyOf (head .loop .a)) (head .loop .state) (in-hand head taken) _ (step .advance .ensures)
+      (head .loop .inv .2)
+
+first-requires : tie.Need-first-requires Inv-loop μ-loop
+first-requires c κs = search needs
+
+loop-holds : tie.Need-loop-holds Inv-loop μ-loop
+loop-holds c =
+    let s = c .before .before .before .before .before .args .s .now in (
+      begun _ l s Seeking (replyOf (c .first .result)) (c .first .ensures .0),
+      (λ z. (rw (← c .first .ensures .0) at (first-later l s)) z .1),
+      nowhere (length s),
+    )
+
+advance-requires : tie.Need-advance-requires Inv-loop μ-loop
+advance-requires c κs =
+    let turn = c .before .before .before in
+    lies-in l (bytes turn) (asked turn) (replyOf (turn .loop .a)) (turn .loop .state) (in-hand turn (c .before .if1 .taken))
+
+is-over-requires : tie.Need-is-over-requires Inv-loop μ-loop
+is-over-requires c κs = search needs
+
+outcome-requires : tie.Need-outcome-requires Inv-loop μ-loop
+outcome-requires c κs = search needs
+
+returns : tie.Need-returns Inv-loop μ-loop
+returns c =
+    let step = c .before .before .before in
+    let over = sym (c .before .before .is-over .ensures) ∙ c .before .if2 .taken in
+    let is = c .outcome .ensures in
+    (is ∙ over-early l (bytes (head step)) (asked (head step)) _ _ (on step) over, rw is (placed step))
+
+next-requires : tie.Need-next-requires Inv-loop μ-loop
+next-requires c κs = search needs
+
+loop-less : tie.Need-loop-less Inv-loop μ-loop
+loop-less c =
+    let step = c .before .before .before .before in
+    let turn = head step in
+    less l (bytes turn) _ _ (replyOf (c .next .result)) (taken step) (turn .loop .inv .1 (taken step))
+    (rw (← c .next .ensures .0) at (next-later l (bytes turn) (view (turn .loop .a .place))))
+
+loop-again : tie.Need-loop-again Inv-loop μ-loop
+loop-again c =
+    let step = c .before .before .before .before in
+    let turn = head step in (
+      rw (c .next .ensures .0) (on step),
+      (λ z. (rw (← c .next .ensures .0) at (next-later l (bytes turn) (view (turn .loop .a .place)))) z .1),
+      placed step,
+    )
+
+outcome-requires-2 : tie.Need-outcome-requires-2 Inv-loop μ-loop
+outcome-requires-2 c κs = search needs
+
+returns-2 : tie.Need-returns-2 Inv-loop μ-loop
+returns-2 c =
+    let turn = c .before .before .before in
+    let is = c .outcome2 .ensures in (
+      is ∙ searched l (bytes turn) (asked turn) (replyOf (turn .loop .a)) (turn .loop .state) (turn .loop .inv .0) (c .before .if1 .left),
+      rw is (turn .loop .inv .2),
+    )
+
+pub search-spec : {M : Type 1} → statement M
+search-spec =
+    tie.close
+    (tie.spec
+    Inv-loop
+    μ-loop
+    first-requires
+    loop-holds
+    advance-requires
+    is-over-requires
+    outcome-requires
+    returns
+    next-requires
+    loop-less
+    loop-again
+    outcome-requires-2
+    returns-2)

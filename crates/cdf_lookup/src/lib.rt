@@ -1,0 +1,275 @@
+// Which of two values counts: the value of a field, by its template's name and first key, in the first of two streams that has it.
+ghost use Prim.Native.Nat.{_+_, _≤_};
+ghost use mathlib.Core.Path.{_≡_};
+ghost use mathlib.Core.Option.{some};
+ghost use lib.ListN.{length};
+ghost use Rattle.cdf_prefix.specs.Layout.{layoutOf, prefixOf};
+ghost use Rattle.cdf_prefix.specs.declared.Edition.the-variants.{First};
+ghost use Rattle.cdf_units.specs.Units.{listing};
+ghost use Rattle.cdf_units.specs.Check.{checkOf};
+ghost use Rattle.cdf_grammar.specs.Trees.{Forest};
+ghost use Rattle.cdf_grammar.specs.Encoding.{Stream};
+ghost use Rattle.cdf_find.specs.Find.{query, sameBytes, reads, valueOf, refusal, found, isGroup};
+ghost use Rattle.cdf_find.specs.Search.{advanceOf, outcomeOf, isOver, searchOf};
+ghost use Rattle.cdf_find.specs.Chosen.{streamOf};
+ghost use Rattle.cdf_lookup.specs.Answers.{due, Lends};
+ghost use Rattle.cdf_lookup.specs.Parts.{Lies, Placed, rootNumber};
+use cdf_check::Checked;
+use cdf_check::check;
+use cdf_find::Lookup;
+use cdf_find::Search;
+use cdf_find::Value;
+use cdf_prefix::Edition;
+use cdf_prefix::prefix;
+use cdf_reader::first as first_unit;
+use cdf_table::ER_GROUP;
+use cdf_table::FIELD;
+use cdf_table::TEMPLATE;
+use cdf_units::Unit;
+
+// What is wrong: a number and its offset; 0 if nothing is.
+struct Fault {
+    number: usize,
+    offset: usize,
+}
+
+fn same(a: &[u8], b: &[u8]) -> bool
+    ensures { λ r. ⌜ r ≡ sameBytes (now (a .entry)) (now (b .entry)) ⌝ }
+{
+    if a.len() != b.len() {
+        return false;
+    }
+    let mut i = 0;
+    while i < a.len() {
+        if a[i] != b[i] {
+            return false;
+        }
+        i += 1;
+    }
+    true
+}
+
+// Whether a unit of s has this id, and between its prefix and the position these bytes.
+fn holds(edition: Edition, s: &[u8], u: Unit, to: usize, id: usize, text: &[u8]) -> bool
+    requires { ⌜ (u .start + prefixOf (layoutOf edition) ≤ to) × (to ≤ length (now s)) ⌝ }
+    ensures { λ r. ⌜ r ≡ reads (layoutOf edition) (now (s .entry)) id (now (text .entry)) u to ⌝ }
+{
+    if u.id != id {
+        return false;
+    }
+    let body = u.start + prefix(edition);
+    same(&s[body..to], text)
+}
+
+// A field's value.
+fn value_of(u: Unit) -> Value
+    ensures { λ r. ⌜ r ≡ valueOf (some u) ⌝ }
+{
+    Value::At {
+        start: u.own,
+        end: u.end,
+    }
+}
+
+// One more unit.
+fn advance(
+    edition: Edition,
+    s: &[u8],
+    state: Search,
+    u: Unit,
+    template: &[u8],
+    kind: usize,
+    key: &[u8],
+    field: &[u8],
+) -> Search
+    requires { ⌜ Lies (layoutOf edition) (length (now s)) u ⌝ }
+    ensures { λ r. ⌜ r ≡ advanceOf (layoutOf edition) (now (s .entry)) (query (now (template .entry)) kind (now (key .entry)) (now (field .entry))) state u ⌝ }
+{
+    match state {
+        Search::Seeking => {
+            if holds(edition, s, u, u.own, TEMPLATE, template) {
+                return Search::Named(u.end);
+            }
+            Search::Seeking
+        }
+        Search::Named(end) => {
+            if !holds(edition, s, u, u.end, kind, key) {
+                return Search::Seeking;
+            }
+            Search::Inside(end)
+        }
+        Search::Inside(end) => {
+            if u.start >= end {
+                return Search::Over(Value::Missing);
+            }
+            if holds(edition, s, u, u.own, FIELD, field) {
+                return Search::Over(value_of(u));
+            }
+            Search::Inside(end)
+        }
+        Search::Over(value) => Search::Over(value),
+    }
+}
+
+// What a search has found once no unit is left.
+fn outcome(state: Search) -> Value
+    ensures { λ r. ⌜ r ≡ outcomeOf state ⌝ }
+{
+    match state {
+        Search::Seeking => Value::Missing,
+        Search::Named(_) => Value::Missing,
+        Search::Inside(_) => Value::Missing,
+        Search::Over(value) => value,
+    }
+}
+
+// Whether no further unit matters.
+fn is_over(state: Search) -> bool
+    ensures { λ r. ⌜ r ≡ isOver state ⌝ }
+{
+    match state {
+        Search::Seeking => false,
+        Search::Named(_) => false,
+        Search::Inside(_) => false,
+        Search::Over(_) => true,
+    }
+}
+
+// Searches s, unit by unit: a start and nexts until it is over.
+fn search(s: &[u8], template: &[u8], kind: usize, key: &[u8], field: &[u8]) -> Value
+    ensures is { λ r. ⌜ r ≡ searchOf (layoutOf First) (now (s .entry)) (query (now (template .entry)) kind (now (key .entry)) (now (field .entry))) ⌝ }
+    ensures placed { λ r. ⌜ Placed (length (now (s .entry))) r ⌝ }
+{
+    let mut a = first_unit(s);
+    let mut state = Search::Seeking;
+    while a.number == 0 {
+        let unit = a.unit;
+        state = advance(Edition::First, s, state, unit, template, kind, key, field);
+        if is_over(state) {
+            return outcome(state);
+        }
+        let p = a.place;
+        a = p.next(s);
+    }
+    outcome(state)
+}
+
+// What the check says of s.
+fn fault_of(s: &[u8]) -> Fault
+    ensures number { λ r. ⌜ r .number ≡ checkOf (layoutOf First) (now (s .entry)) .number ⌝ }
+    ensures offset { λ r. ⌜ ((r .number ≡ 0 → ⊥) → r .offset ≡ checkOf (layoutOf First) (now (s .entry)) .value) ⌝ }
+    ensures tree { λ r. ⌜ (r .number ≡ 0 → ((t : Forest) × Stream (layoutOf First) (now (s .entry)) t)) ⌝ }
+{
+    match check(s) {
+        Checked::Accepted(_) => Fault {
+            number: 0,
+            offset: 0,
+        },
+        Checked::Refused { number, offset } => Fault { number, offset },
+    }
+}
+
+// Whether the root of s is an E/R group.
+fn is_group(s: &[u8]) -> bool
+    ensures { λ r. ⌜ r ≡ isGroup (listing (layoutOf First) (now (s .entry)) .units) ⌝ }
+{
+    let a = first_unit(s);
+    let root = a.unit;
+    root.id == ER_GROUP
+}
+
+// 7 if the root of either is none; else 0.
+fn root_fault(first: &[u8], second: &[u8]) -> Fault
+    ensures number { λ r. ⌜ r .number ≡ rootNumber (layoutOf First) (now (first .entry)) (now (second .entry)) ⌝ }
+    ensures offset { λ r. ⌜ r .offset ≡ 0 ⌝ }
+{
+    if is_group(first) & is_group(second) {
+        return Fault {
+            number: 0,
+            offset: 0,
+        };
+    }
+    Fault {
+        number: 7,
+        offset: 0,
+    }
+}
+
+fn refused(number: usize, offset: usize) -> Lookup
+    ensures { λ r. ⌜ r ≡ refusal number offset ⌝ }
+{
+    Lookup {
+        number,
+        offset,
+        which: 0,
+        start: 0,
+        size: 0,
+    }
+}
+
+fn found_in(which: usize, start: usize, end: usize) -> Lookup
+    requires { ⌜ start ≤ end ⌝ }
+    ensures { λ r. ⌜ r ≡ found which start end ⌝ }
+{
+    Lookup {
+        number: 0,
+        offset: 0,
+        which,
+        start,
+        size: end - start,
+    }
+}
+
+// The value of a field in the first of two streams that has it, as numbers. The template has this name, its first key this id and these
+// bytes; names have their count byte.
+pub fn lookup_place(
+    first: &[u8],
+    second: &[u8],
+    template: &[u8],
+    kind: usize,
+    key: &[u8],
+    field: &[u8],
+) -> Lookup
+    ensures is { λ r. ⌜ r ≡ due (first .entry) (second .entry) (template .entry) kind (key .entry) (field .entry) ⌝ }
+    ensures within { λ r. ⌜ r .start + r .size ≤ length (streamOf (r .which) (now (first .entry)) (now (second .entry))) ⌝ }
+{
+    let one = fault_of(first);
+    let two = fault_of(second);
+    let root = root_fault(first, second);
+    if one.number != 0 {
+        return refused(one.number, one.offset);
+    }
+    if two.number != 0 {
+        return refused(two.number, two.offset);
+    }
+    if root.number != 0 {
+        return refused(root.number, root.offset);
+    }
+    match search(first, template, kind, key, field) {
+        Value::At { start, end } => found_in(1, start, end),
+        Value::Missing => match search(second, template, kind, key, field) {
+            Value::At { start, end } => found_in(2, start, end),
+            Value::Missing => refused(15, 0),
+        },
+    }
+}
+
+// The same value as a part of the stream that it stands in. A refusal's part is empty and begins where the first stream does.
+pub fn lookup<'a>(
+    first: &'a [u8],
+    second: &'a [u8],
+    template: &[u8],
+    kind: usize,
+    key: &[u8],
+    field: &[u8],
+) -> &'a [u8]
+    ensures { λ r. ⌜ Lends (due (first .entry) (second .entry) (template .entry) kind (key .entry) (field .entry)) (first .entry) (second .entry) r ⌝ }
+{
+    let a = lookup_place(first, second, template, kind, key, field);
+    let start = a.start;
+    let end = start + a.size;
+    if a.which == 2 {
+        return &second[start..end];
+    }
+    &first[start..end]
+}
