@@ -1,6 +1,6 @@
 //! Which kind of lookup it was, and what the model owes of its answer: both from the requests that build the streams.
 
-use cdf_model::builder::{requests, Request};
+use crate::keyed::{keyed, Field, Keyed};
 use cdf_model::check::check;
 use cdf_model::lookup::{lookup, Asked, Found};
 use cdf_model::rules::Refusal;
@@ -68,56 +68,6 @@ pub const LOOKED_UP: [&str; 60] = [
     "15: the first key with an id that is too large by a multiple of 2^32",
     "15: the first key with a byte more or less",
 ];
-
-/// A template or an entity key.
-pub struct Keyed {
-    pub id: u64,
-    pub name: Vec<u8>,
-    pub keys: Vec<(u64, Vec<u8>)>,
-    pub fields: Vec<Field>,
-}
-
-pub struct Field {
-    pub name: Vec<u8>,
-    pub value: Vec<u8>,
-    /// Where the value stands.
-    pub start: u64,
-}
-
-impl Keyed {
-    fn has_key(&self, asked: &Asked) -> bool {
-        self.keys[0].0 == asked.key_id && self.keys[0].1 == asked.key
-    }
-
-    fn is_asked(&self, asked: &Asked) -> bool {
-        self.id == 5 && self.name == asked.template && self.has_key(asked)
-    }
-
-    fn field(&self, asked: &Asked) -> Option<&Field> {
-        self.fields.iter().find(|field| field.name == asked.field)
-    }
-}
-
-/// The templates and entity keys of a stream. Each unit ends behind the prefixes and own data of those before it, and its
-/// own.
-pub fn keyed(stream: &[u8]) -> Vec<Keyed> {
-    let mut found: Vec<Keyed> = Vec::new();
-    let mut end = 0;
-    for Request { id, data, .. } in requests(stream) {
-        end += 6 + data.len();
-        match (id, found.last_mut()) {
-            (5 | 11, _) => found.push(Keyed { id, name: data, keys: vec![], fields: vec![] }),
-            (6 | 7, Some(last)) => last.keys.push((id, data)),
-            (8, Some(last)) => {
-                let (name, value) = data.split_at(1 + usize::from(data[0]));
-                let start = (end - value.len()) as u64;
-                last.fields.push(Field { name: name.to_vec(), value: value.to_vec(), start });
-            }
-            _ => {}
-        }
-    }
-    found
-}
 
 /// The field that is found in one accepted E/R group.
 fn field<'a>(group: &'a [Keyed], asked: &Asked) -> Option<&'a Field> {

@@ -1,7 +1,8 @@
 //! Compares lookups: pairs of streams with few names and keys, and what is asked of them, mostly taken from them.
 
 use crate::archive;
-use crate::looked_up::{broken, keyed, kinds, Keyed};
+use crate::keyed::{keyed, Keyed};
+use crate::looked_up::{broken, kinds};
 use crate::readers::hex;
 use crate::tally::{Function, Tally};
 use cdf_model::lookup::{lookup, Asked};

@@ -5,6 +5,7 @@
 mod archive;
 mod builders;
 mod consistency;
+mod keyed;
 mod keys;
 mod looked_up;
 mod lookups;

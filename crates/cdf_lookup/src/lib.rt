@@ -170,7 +170,7 @@ fn fault_of(s: &[u8]) -> Fault
 }
 
 // Whether the root of s is an E/R group.
-fn is_group(s: &[u8]) -> bool
+pub fn is_group(s: &[u8]) -> bool
     ensures { λ r. ⌜ r ≡ isGroup (listing (layoutOf First) (now (s .entry)) .units) ⌝ }
 {
     let a = first_unit(s);

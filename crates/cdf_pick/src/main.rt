@@ -4,10 +4,9 @@
 // first 65,536 bytes are read: a stream has at most 65,535.
 use cdf_check::Checked;
 use cdf_check::check;
+use cdf_lookup::is_group;
 use cdf_lookup::lookup;
 use cdf_lookup::lookup_place;
-use cdf_reader::first as first_unit;
-use cdf_table::ER_GROUP;
 use cdf_table::TEMPLATE_KEY;
 use cdf_table::TEMPORARY_KEY;
 use libc::STDOUT_FILENO;
@@ -35,12 +34,6 @@ fn say_fault(s: &[u8], title: &[u8]) -> bool {
             true
         }
     }
-}
-
-fn is_group(s: &[u8]) -> bool {
-    let a = first_unit(s);
-    let root = a.unit;
-    root.id == ER_GROUP
 }
 
 // The answer does not say which file a refusal speaks of: the first that is at fault.
