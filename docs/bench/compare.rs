@@ -4,8 +4,9 @@ use crate::archive::{proved_walk, Archive, Explanation, Now, LAST};
 use crate::codes::{plain_build, proved_build, Case, Scratch, Second, LISTING_ROOM};
 use crate::plain::{check, explain, fold_stop, fold_unit, replay, walk, Reader, INLINED, OUT_OF_LINE};
 use crate::plain_write::{listing, Builder};
+use crate::random::Random;
 use crate::rules::{Stop, Unit};
-use crate::streams::{damaged, one_field_more, samples, Random, Sample, Set};
+use crate::streams::{damaged, one_field_more, samples, Sample, Set};
 
 /// What plain Rust says of some bytes: the units handed out, what comes after the last, and why it is a refusal.
 pub struct Expected {

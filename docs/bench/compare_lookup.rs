@@ -5,8 +5,9 @@ use crate::codes::question;
 use crate::compare::{list, read, Expected};
 use crate::plain::{INLINED, OUT_OF_LINE};
 use crate::plain_lookup::lookup;
+use crate::random::Random;
 use crate::rules::Unit;
-use crate::streams::{damaged, one_field_more, samples, unit, Random, Set};
+use crate::streams::{damaged, one_field_more, samples, unit, Set};
 
 /// A stream with what plain Rust says of it.
 struct Stream {

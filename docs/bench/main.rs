@@ -8,6 +8,8 @@ mod compare_lookup;
 mod plain;
 mod plain_lookup;
 mod plain_write;
+mod random;
+mod rounds;
 mod rules;
 mod streams;
 mod timing;
@@ -16,11 +18,10 @@ use streams::{sets, SIZES};
 
 fn main() {
     let named: Vec<String> = std::env::args().skip(1).collect();
-    let rounds = std::env::var("ROUNDS").map_or(1000, |text| text.parse().expect("ROUNDS is a number"));
     let mut parts = Vec::from(codes::parts());
     parts.retain(|part| named.is_empty() || named.iter().any(|name| part.name == name));
     let sets = sets();
     compare::assert_equal(&sets);
     compare_lookup::assert_equal(&sets);
-    timing::tables(&parts, &sets, &SIZES, rounds);
+    timing::tables(&parts, &sets, &SIZES, rounds::wanted());
 }

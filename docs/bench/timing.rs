@@ -1,58 +1,27 @@
-//! The rounds, and the tables of their ratios.
+//! The times of the parts, and the tables of their ratios.
 
 use crate::codes::{Part, Scratch};
+use crate::rounds::{self, best, ratios, row};
 use crate::streams::Set;
 use std::hint::black_box;
-use std::time::Instant;
 
 /// How many codes of a part are plain Rust: inlined, and out of line.
 const PLAIN: usize = 2;
 
-/// The times of each code in each round, in nanoseconds a byte. A round runs all codes over the set, each time beginning
-/// with another, so that a slow moment of the machine meets all alike.
+/// The times of each code in each round.
 fn time(part: &Part, set: &Set, rounds: usize) -> Vec<Vec<f64>> {
-    const RUNS: usize = 5;
     let codes = &part.codes;
-    let bytes = set.cases.iter().map(part.bytes).sum::<usize>() as f64;
+    let bytes = set.cases.iter().map(part.bytes).sum();
     let scratch = &mut Scratch::new();
-    let mut times = vec![vec![0.0; rounds]; codes.len()];
-    for round in 0..rounds {
-        for turn in 0..codes.len() {
-            let code = (round + turn) % codes.len();
-            let begin = Instant::now();
-            for _ in 0..RUNS {
-                for case in &set.cases {
-                    black_box((codes[code].run)(black_box(case), black_box(&mut *scratch)));
-                }
-            }
-            times[code][round] = begin.elapsed().as_nanos() as f64 / RUNS as f64 / bytes;
+    rounds::time(codes.len(), rounds, bytes, |code| {
+        for case in &set.cases {
+            black_box((codes[code].run)(black_box(case), black_box(&mut *scratch)));
         }
-    }
-    times
-}
-
-fn best(times: &[f64]) -> f64 {
-    times.iter().copied().fold(f64::INFINITY, f64::min)
-}
-
-fn median(mut values: Vec<f64>) -> f64 {
-    values.sort_by(f64::total_cmp);
-    values[values.len() / 2]
-}
-
-/// The ratio of the best times, and the median of the ratios within a round.
-fn ratios(times: &[f64], plain: &[f64]) -> String {
-    let within = times.iter().zip(plain).map(|(a, b)| a / b).collect();
-    format!("{:.2} / {:.2}", best(times) / best(plain), median(within))
-}
-
-fn row(cells: &[String]) -> String {
-    format!("| {} |", cells.join(" | "))
+    })
 }
 
 fn heading(columns: &[String]) -> String {
-    let head = [&["code".to_string(), "stream".to_string()], columns].concat();
-    format!("{}\n|{}", row(&head), "---|".repeat(head.len()))
+    rounds::heading(["code", "stream"], columns)
 }
 
 /// The sets are those of all kinds, by size: `sizes` one after the other, each with all kinds in one order.

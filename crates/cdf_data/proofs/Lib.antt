@@ -1,4 +1,5 @@
 pub mod Names
+pub mod Standing
 pub mod Taken
 pub mod Pointing
 pub mod Proved

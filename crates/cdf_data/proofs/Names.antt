@@ -1,13 +1,13 @@
 -- The bytes of a name, one by one.
-use Prim.Native.Nat.{ℕ, zero, suc, _+_, _-_, _≤_, _<_}
-use mathlib.Core.Path.{_≡_, refl, sym, ap, _∙_}
+use Prim.Native.Nat.{ℕ, suc, _+_, _-_, _≤_, _<_}
+use mathlib.Core.Path.{_≡_, refl, sym, _∙_}
 use mathlib.Core.Bool.{Bool, true, false, cond, _&&_}
 use mathlib.Core.List.{List, [], _∷_}
 use native.Mathlib.Omega.{arith}
 use native.Mathlib.Numerals.{add-one}
 use lib.Dec.{leb}
-use lib.ListN.{length, take, drop, getD, drop-of-length-le, length-take, length-drop}
-use lib.Seq.{drop-cons, getD-drop}
+use lib.ListN.{length, take, drop, getD, drop-of-length-le, length-take}
+use lib.Seq.{drop-cons}
 use borrow.Author.Tests.{le-leb}
 use Rattle.cdf_data.specs.Data.{letter, nameByte, nameRun, nameFront, spelled, nameOf}
 use Rattle.cdf_data.specs.declared.Own.the-variants.{Broken}
@@ -26,33 +26,45 @@ unfolding nameFront
 front-fits [] = omega arith
 front-fits (b ∷ s) = one-more (letter b) (nameRun s) (length s) (run-fits s)
 
-pub run-short : (n : ℕ) (s : List ℕ) (r : ℕ) → r ≡ nameRun (take n s) → r ≤ n
-run-short n s r e = omega (arith, run-fits (take n s), length-take n s)
-
 pub front-short : (n : ℕ) (s : List ℕ) → nameFront (take n s) ≤ n
 front-short n s = omega (arith, front-fits (take n s), length-take n s)
 
 -- from i on, where everything before may stand in a name
 pub record Run (s : List ℕ) (i : ℕ) : Type 0 where
   pub within : i ≤ length s
-  pub same : nameRun s ≡ i + nameRun (drop i s)
+  pub same : nameFront s ≡ i + nameRun (drop i s)
 
-pub begun : (s : List ℕ) → Run s 0
-begun s = record { within = omega arith; same = omega arith }
+pub front-none : (s : List ℕ) → length s ≡ 0 → 0 ≡ nameFront s
+unfolding nameFront
+front-none [] e = refl
+front-none (b ∷ s) e = absurd (omega arith)
+
+first-is : (s : List ℕ) → (length s ≡ 0 → ⊥) → nameFront s ≡ cond (letter (getD s 0 0)) (suc (nameRun (drop 1 s))) 0
+unfolding nameFront
+first-is [] some = absurd (some refl)
+first-is (b ∷ s) some = refl
+
+-- by the first byte
+module _ (s : List ℕ) (some : length s ≡ 0 → ⊥) where
+  pub front-bad : (b : Bool) → b ≡ letter (getD s 0 0) → b ≡ false → 0 ≡ nameFront s
+  front-bad b e f = sym (first-is s some ∙ rw (← e, f))
+
+  pub begun : (b : Bool) → b ≡ letter (getD s 0 0) → b ≡ true → Run s 1
+  begun b e f = record { within = omega (arith, some); same = first-is s some ∙ rw (← e, f) (omega arith) }
 
 module _ (s : List ℕ) (i : ℕ) (r : Run s i) where
   turn : (b : Bool) → i < length s → b ≡ nameByte (getD s i 0) →
-      nameRun s ≡ i + cond b (suc (nameRun (drop (suc i) s))) 0
+      nameFront s ≡ i + cond b (suc (nameRun (drop (suc i) s))) 0
   unfolding nameRun
   turn b h e = rw e (r .same ∙ rw (drop-cons s i 0 h))
 
-  pub stopped : (b : Bool) → i < length s → b ≡ nameByte (getD s i 0) → b ≡ false → i ≡ nameRun s
+  pub stopped : (b : Bool) → i < length s → b ≡ nameByte (getD s i 0) → b ≡ false → i ≡ nameFront s
   stopped b h e f = sym (turn b h e ∙ rw f (omega arith))
 
   pub on : (b : Bool) → i < length s → b ≡ nameByte (getD s i 0) → b ≡ true → Run s (i + 1)
   on b h e f = record { within = omega arith; same = turn b h e ∙ rw (f, add-one i) (omega arith) }
 
-  pub ended : length s ≤ i → i ≡ nameRun s
+  pub ended : length s ≤ i → i ≡ nameFront s
   unfolding nameRun
   ended h = sym (r .same ∙ rw (drop-of-length-le s h) (omega arith))
 
@@ -66,15 +78,6 @@ after-count : (b : ℕ) (s : List ℕ) → nameOf (b ∷ s) ≡
 unfolding nameOf
 after-count b s = let e : suc (length s) - 1 ≡ length s = omega arith in rw e
 
--- of at least one byte, where the first is a letter and where it is not
-front-is : (n : ℕ) (s : List ℕ) → 1 ≤ n → 1 ≤ length s → (b : Bool) → b ≡ letter (getD s 0 0) →
-    nameFront (take n s) ≡ cond b (nameRun (take n s)) 0
-unfolding nameFront
-front-is zero s h k b e = absurd (omega arith)
-front-is (suc n) [] h k b e = absurd (omega arith)
-front-is (suc n) (x ∷ s) h k true e = rw (← e)
-front-is (suc n) (x ∷ s) h k false e = rw (← e)
-
 -- a name's count and the bytes after it
 module _ (s : List ℕ) (some : length s ≡ 0 → ⊥) (count : ℕ) (is : count ≡ getD s 0 0) where
   pub name-is : nameOf s ≡
@@ -87,11 +90,6 @@ module _ (s : List ℕ) (some : length s ≡ 0 → ⊥) (count : ℕ) (is : coun
       go [] some = absurd (some refl)
       go (b ∷ s) some = after-count b s
 
-  -- with a right count, by the first byte
-  pub name-by : 1 ≤ count → count ≤ 32 → count ≤ length s - 1 → (b : Bool) → b ≡ letter (getD s 1 0) →
-      nameOf s ≡ spelled count (cond b (nameRun (take count (drop 1 s))) 0)
-  name-by low high within b e =
-      name-is
-      ∙ rw (le-leb 1 count low, le-leb count 32 high, le-leb count (length s - 1) within)
-      (ap (spelled count)
-      (front-is count (drop 1 s) low (simp length-drop (omega arith)) b (e ∙ ap letter (sym (getD-drop 1 s 0 0)))))
+  -- with a right count
+  pub name-by : 1 ≤ count → count ≤ 32 → count ≤ length s - 1 → nameOf s ≡ spelled count (nameFront (take count (drop 1 s)))
+  name-by low high within = name-is ∙ rw (le-leb 1 count low, le-leb count 32 high, le-leb count (length s - 1) within)

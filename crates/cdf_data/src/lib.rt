@@ -1,7 +1,11 @@
 // The own data of a unit, on the bytes after its prefix.
 ghost use mathlib.Core.Path.{_≡_};
 ghost use Prim.Native.Nat.{_≤_};
-ghost use Rattle.cdf_data.specs.Data.{letter, nameByte, nameRun, nameOf, valueFrom, valueAfter, numbersOf, ownData};
+ghost use Rattle.cdf_data.specs.Standing.{nameRow};
+ghost use Rattle.cdf_data.specs.Data.{letter, nameByte, nameFront, nameOf, valueFrom, valueAfter, numbersOf, ownData};
+use crate::row::ANYWHERE;
+use crate::row::NAME_BYTES;
+use crate::row::NOWHERE;
 use cdf_table::CALL;
 use cdf_table::ENTITY_KEY;
 use cdf_table::FIELD;
@@ -14,36 +18,56 @@ use cdf_table::TEMPLATE;
 use cdf_table::TEMPLATE_KEY;
 use cdf_table::TEMPORARY_KEY;
 
+mod row;
+
 // What a unit's own data is: its name or fixed numbers take so many bytes, or this byte is the first that breaks its rule.
 pub enum Own {
     Taken(usize),
     Broken(usize),
 }
 
-fn is_letter(b: u8) -> bool
+// A letter may stand anywhere in a name.
+fn is_letter(row: &[u8; 256], b: u8) -> bool
+    requires { ⌜ now row ≡ nameRow ⌝ }
     ensures { λ r. ⌜ r ≡ letter b ⌝ }
 {
-    (65 <= b) & (b <= 90)
+    row[b as usize] == ANYWHERE
 }
 
-fn is_name_byte(b: u8) -> bool
+fn is_name_byte(row: &[u8; 256], b: u8) -> bool
+    requires { ⌜ now row ≡ nameRow ⌝ }
     ensures { λ r. ⌜ r ≡ nameByte b ⌝ }
 {
-    ((65 <= b) & (b <= 90)) | (((48 <= b) & (b <= 57)) | (b == 95))
+    row[b as usize] != NOWHERE
 }
 
-// How many bytes from the front may stand in a name after its first.
-fn name_run(s: &[u8]) -> usize
-    ensures { λ r. ⌜ r ≡ nameRun (now (s .entry)) ⌝ }
+// How many bytes from the front may stand in a name from its first on, by the row.
+fn front_by(row: &[u8; 256], s: &[u8]) -> usize
+    requires { ⌜ now row ≡ nameRow ⌝ }
+    ensures { λ r. ⌜ r ≡ nameFront (now (s .entry)) ⌝ }
 {
-    let mut i = 0;
+    if s.len() == 0 {
+        return 0;
+    }
+    if !is_letter(row, s[0]) {
+        return 0;
+    }
+    let mut i = 1;
     while i < s.len() {
-        if !is_name_byte(s[i]) {
+        if !is_name_byte(row, s[i]) {
             return i;
         }
         i += 1;
     }
     i
+}
+
+// The same. An array that is constant is made anew where it is named: so once for a whole name.
+fn name_front(s: &[u8]) -> usize
+    ensures { λ r. ⌜ r ≡ nameFront (now (s .entry)) ⌝ }
+{
+    let row = NAME_BYTES;
+    front_by(&row, s)
 }
 
 // A name with its count at the front.
@@ -63,11 +87,8 @@ fn name(s: &[u8]) -> Own
     if s.len() - 1 < count {
         return Own::Broken(0);
     }
-    if !is_letter(s[1]) {
-        return Own::Broken(1);
-    }
     let end = 1 + count;
-    let front = name_run(&s[1..end]);
+    let front = name_front(&s[1..end]);
     if front == count {
         Own::Taken(end)
     } else {

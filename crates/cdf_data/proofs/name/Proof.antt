@@ -1,14 +1,14 @@
--- Each return by the count, the first byte or the run of the others. A place of the code is named by its test: `some` is
--- that the count is not 0, `few` that it is at most 32, `fit` that the unit has so many bytes, `first` the first byte's.
+-- Each return by the count, or by how many of its bytes may stand there. A place of the code is named by its test: `some` is
+-- that the count is not 0, `few` that it is at most 32, `fit` that the unit has so many bytes.
 use Prim.Native.Nat.{_+_, _-_}
-use mathlib.Core.Path.{refl, sym, _∙_}
+use mathlib.Core.Path.{_≡_, refl, sym, _∙_}
 use lib.ListN.{drop, getD}
 use native.Mathlib.Omega.{arith}
-use borrow.Author.Tests.{not-true, not-false, le-leb, lt-leb, eq-eqb, ne-eqb}
+use borrow.Author.Tests.{le-leb, lt-leb, eq-eqb, ne-eqb}
 use borrow.Author.Needs.{needs}
 use Rattle.cdf_table.proofs.Parts.{minus-one}
-use Rattle.cdf_data.specs.Data.{spelled}
-use Rattle.cdf_data.proofs.Names.{run-short, name-none, name-is, name-by}
+use Rattle.cdf_data.specs.Data.{nameOf, spelled}
+use Rattle.cdf_data.proofs.Names.{front-short, name-none, name-is, name-by}
 use Rattle.cdf_data.proofs.name.Statement.{statement}
 use Rattle.cdf_data.proofs.name.Tie as tie
 
@@ -40,77 +40,45 @@ returns-4 c =
     (name-is _ (some .before .before .if1 .left) _ refl
     ∙ rw (le-leb 1 _ (some .if2 .left), le-leb _ 32 (few .if3 .left), lt-leb _ _ (c .if4 .taken)))
 
-shared-slice-read-is-letter : tie.Need-shared-slice-read-is-letter
-shared-slice-read-is-letter c = search needs
-
-is-letter-requires : tie.Need-is-letter-requires
-is-letter-requires c κs = search needs
-
-returns-5 : tie.Need-returns-5
-unfolding spelled
-returns-5 c =
-    let letter = c .before in
-    let fit = letter .before .before in
-    let few = fit .before in
-    let some = few .before in
-    let count = getD (some .before .before .before .before .args .s .now) 0 0 in
-    sym
-    (name-by _ (some .before .before .if1 .left) _ refl (some .if2 .left) (few .if3 .left) (fit .if4 .left) _ (letter .is-letter .ensures)
-    ∙ rw (not-true (letter .is-letter .result) (c .if5 .taken), ne-eqb 0 count (omega (arith, some .if2 .left))))
-
 add-end : tie.Need-add-end
 add-end c = search needs
 
-sub-name-run : tie.Need-sub-name-run
-sub-name-run c = search needs
+sub-name-front : tie.Need-sub-name-front
+sub-name-front c = search needs
 
-part-name-run-start : tie.Need-part-name-run-start
-part-name-run-start c = search needs
+part-name-front-start : tie.Need-part-name-front-start
+part-name-front-start c = search needs
 
-part-name-run-end : tie.Need-part-name-run-end
-part-name-run-end c = search needs
+part-name-front-end : tie.Need-part-name-front-end
+part-name-front-end c = search needs
 
-name-run-requires : tie.Need-name-run-requires
-name-run-requires c κs = search needs
+name-front-requires : tie.Need-name-front-requires
+name-front-requires c κs = search needs
+
+-- With a right count the bytes after it are spelled, by their front.
+right-count : (c : tie.After-name-front) →
+    let fit = c .before .before in
+    let s = fit .before .before .before .before .before .before .args .s .now in
+    nameOf s ≡ spelled (getD s 0 0) (c .name-front .result)
+right-count c =
+    let fit = c .before .before in
+    let few = fit .before in
+    let some = few .before in
+    name-by _ (some .before .before .if1 .left) _ refl (some .if2 .left) (few .if3 .left) (fit .if4 .left)
+    ∙ rw (← (simp minus-one at (c .name-front .ensures)))
 
 add-bad : tie.Need-add-bad
 add-bad c =
-    let first = c .before .before .before in
-    let start = first .before .before .before .before .before .before .before .before .before in
-    let s = start .args .s .now in
-    omega (arith, run-short (1 + getD s 0 0 - 1) (drop 1 s) _ (c .before .name-run .ensures))
+    let s = c .before .before .before .before .before .before .before .before .before .args .s .now in
+    omega (arith, front-short (1 + getD s 0 0 - 1) (drop 1 s), c .before .name-front .ensures)
+
+returns-5 : tie.Need-returns-5
+unfolding spelled
+returns-5 c = sym (right-count (c .before) ∙ rw (eq-eqb _ _ (c .if5 .taken)))
 
 returns-6 : tie.Need-returns-6
 unfolding spelled
-returns-6 c =
-    let first = c .before .before .before in
-    let letter = first .before in
-    let fit = letter .before .before in
-    let few = fit .before in
-    let some = few .before in
-    sym
-    (name-by _ (some .before .before .if1 .left) _ refl (some .if2 .left) (few .if3 .left) (fit .if4 .left) _ (letter .is-letter .ensures)
-    ∙ rw (
-      not-false (letter .is-letter .result) (first .if5 .left),
-      ← (simp minus-one at (c .before .name-run .ensures)),
-      eq-eqb _ _ (c .if6 .taken),
-    ))
-
-returns-7 : tie.Need-returns-7
-unfolding spelled
-returns-7 c =
-    let first = c .before .before .before in
-    let letter = first .before in
-    let fit = letter .before .before in
-    let few = fit .before in
-    let some = few .before in
-    sym
-    (name-by _ (some .before .before .if1 .left) _ refl (some .if2 .left) (few .if3 .left) (fit .if4 .left) _ (letter .is-letter .ensures)
-    ∙ rw (
-      not-false (letter .is-letter .result) (first .if5 .left),
-      ← (simp minus-one at (c .before .name-run .ensures)),
-      ne-eqb _ _ (c .if6 .left),
-    ))
+returns-6 c = sym (right-count (c .before) ∙ rw (ne-eqb _ _ (c .if5 .left)))
 
 pub name-spec : {M : Type 1} → statement M
 name-spec =
@@ -123,14 +91,11 @@ name-spec =
     returns-3
     sub-if4
     returns-4
-    shared-slice-read-is-letter
-    is-letter-requires
-    returns-5
     add-end
-    sub-name-run
-    part-name-run-start
-    part-name-run-end
-    name-run-requires
+    sub-name-front
+    part-name-front-start
+    part-name-front-end
+    name-front-requires
     add-bad
-    returns-6
-    returns-7)
+    returns-5
+    returns-6)
