@@ -37,7 +37,7 @@ extern "C" {
 #define CDF_NOTHING 11      /* there is nothing to read on from, to skip or to take */
 #define CDF_NO_ROOM 12      /* the log, the text or the buffer is too short */
 #define CDF_TOO_LONG 13     /* a stream would be longer than 65,535 bytes */
-#define CDF_BAD_GROUP 14    /* what was to be added is no stream of its own */
+#define CDF_BAD_GROUP 14    /* what was to be added is no group that the check accepts */
 #define CDF_NOT_FOUND 15    /* neither stream has the field that is looked up */
 
 /* The check of a whole stream. answer[0] is the number of units beside CDF_OK, and else the offset. */

@@ -27,11 +27,12 @@ idsAt count state = those (maysAt count state) idsEnd
 abbrev pub choicesOf : ℕ → ℕ → Choices
 choicesOf count state = record { count = length (idsAt count state); ids = padded 14 (idsAt count state) }
 
--- The answer with these units open, the innermost first.
+-- The state of the innermost of these units, which stands first; 0 where there is none.
 abbrev pub innermost : List Open → ℕ
 innermost [] = 0
 innermost (o ∷ os) = o .state
 
+-- The answer with these units open, the innermost first.
 unfoldable pub toldAt : ℕ → ℕ → List Open → Explained
 toldAt number offset os = record {
   number = number;

@@ -9,7 +9,7 @@ use Rattle.cdf_find.specs.Chosen.{Chosen, Lacks, streamOf}
 use Rattle.cdf_find.specs.Samples.{samplesFound, samplesDue}
 
 pub record Claims : Type 0 where
-  -- K2 and its damaged forms, and a group of two persons, computed.
+  -- K2 and its damaged forms, and groups of two persons and of one with two keys, computed.
   pub samples : samplesFound ≡ samplesDue
   -- With 0 one of the two streams is named,
   pub named : (l : Layout) (s t : List ℕ) (q : Query) → lookupOf l s t q .number ≡ 0 →

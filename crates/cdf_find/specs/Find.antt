@@ -1,4 +1,4 @@
--- Which value counts (02, d): what is found in two streams, from their unit lists alone.
+-- Which value counts (02, d): what is found in two streams, from their unit lists and their bytes.
 use Prim.Native.Nat.{ℕ, _+_, _-_}
 use mathlib.Core.Bool.{Bool, true, false, not, cond, _&&_, _||_}
 use mathlib.Core.List.{List, [], _∷_}

@@ -27,7 +27,7 @@ Each P [] = record {}
 Each P (u ∷ us) = P u × Each P us
 
 pub record Claims : Type 0 where
-  -- K1 to K12 and two more, computed.
+  -- K1 to K12 and three more, computed.
   pub samples : samplesFound ≡ samplesDue
   -- Of bytes that the check accepts nothing is wrong,
   pub accepted : (l : Layout) (s : List ℕ) → checkOf l s .number ≡ 0 → whyOf l s ≡ nothingWrong

@@ -1,4 +1,4 @@
--- What the tool tells of K1 to K12 (01, "Samples"): of each the number, the offset, id and start of each open unit, and the ids.
+-- What the tool tells of K1 to K12 (01, "Samples") and of three more: of each the number, the offset, id and start of each open unit, and the ids.
 use Prim.Native.Nat.{ℕ}
 use mathlib.Core.List.{List, [], _∷_, map}
 use lib.ListN.{set}
