@@ -1,5 +1,5 @@
 #!/usr/bin/env bash
-# The command for people: lists or checks a stream with the proved program cdf_list, says why one is refused with cdf_tell, and looks a
+# The command for people: lists or checks a stream with the proved program cdf_listing_program, says why one is refused with cdf_tell, and looks a
 # value up in two with cdf_pick. It builds the program where it is missing or older than its sources.
 set -u
 root=$(cd "$(dirname "${BASH_SOURCE[0]}")" && pwd) || exit 2
@@ -78,7 +78,7 @@ set_key() {
 }
 
 command=${1-}
-crate=cdf_list
+crate=cdf_listing_program
 case $command in
 list | check) [ $# -le 2 ] || misused "$command takes one file" ;;
 explain)

@@ -8,7 +8,7 @@
 //!                      with their count byte and keys are written as pairs of hexadecimal digits
 //!   model inputs       the stored cases of the check, as cdf_check_cases reads them
 //!   model answers      the check's answer to each
-//!   model build-inputs the stored cases of the builder, as cdf_build_cases reads them
+//!   model build-inputs the stored cases of the builder, as cdf_builder_cases reads them
 //!   model build-answers
 //!                      what that program is to write
 

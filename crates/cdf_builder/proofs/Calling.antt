@@ -8,16 +8,16 @@ use native.Mathlib.Nat.{mod-eq-of-lt}
 use borrow.Author.Tests.{eq-eqb, ne-eqb, ltb-true, leb-true, leb-false, lt-ltb}
 use lib.Dec.{T, eqb, leb, ltb}
 use lib.ListN.{length}
-use Rattle.cdf_table.specs.Ids.{known, idsEnd, kindOf, actionAllowed}
-use Rattle.cdf_table.specs.States.{rootKind}
-use Rattle.cdf_table.proofs.Bools.{both}
-use Rattle.cdf_table.proofs.Tests.{all, below-at, not-member}
-use Rattle.cdf_prefix.specs.Layout.{Layout, prefixOf}
+use Rattle.cdf_unit_table.specs.Ids.{known, idsEnd, kindOf, actionAllowed}
+use Rattle.cdf_unit_table.specs.States.{rootKind}
+use Rattle.cdf_unit_table.proofs.Bools.{both}
+use Rattle.cdf_unit_table.proofs.Tests.{all, below-at, not-member}
+use Rattle.cdf_unit_prefix.specs.Layout.{Layout, prefixOf}
 use Rattle.cdf_grammar.specs.Encoding.{Item, unitBytes}
-use Rattle.cdf_build.specs.Requests.{Request, unit, bytesFor}
-use Rattle.cdf_build.specs.Calls.{Reply, Decision, noPlace, startNumber, startOf, decideOf, writeOf, callOf}
-use Rattle.cdf_build.specs.Place.{BuilderPlace}
-use Rattle.cdf_build.proofs.Replying.{bytes-unit}
+use Rattle.cdf_builder_spec.specs.Requests.{Request, unit, bytesFor}
+use Rattle.cdf_builder_spec.specs.Calls.{Reply, Decision, noPlace, startNumber, startOf, decideOf, writeOf, callOf}
+use Rattle.cdf_builder_spec.specs.Place.{BuilderPlace}
+use Rattle.cdf_builder_spec.proofs.Replying.{bytes-unit}
 use Rattle.cdf_builder.specs.View.{view, decisionOf, replyOf}
 use Rattle.cdf_builder.specs.declared.Built.{Built}
 use Rattle.cdf_builder.proofs.Decided.{decided-done, told}

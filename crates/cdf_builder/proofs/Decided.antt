@@ -7,26 +7,26 @@ use native.Mathlib.Omega.{arith}
 use borrow.Author.Tests.{ne-eqb, not-false}
 use lib.Dec.{eqb}
 use lib.ListN.{length}
-use Rattle.cdf_table.specs.Ids.{known, actionAllowed}
-use Rattle.cdf_table.specs.States.{nothing, opens}
-use Rattle.cdf_table.proofs.Bools.{both, past}
-use Rattle.cdf_prefix.specs.Layout.{Layout, layoutOf, prefixOf, idAt}
-use Rattle.cdf_prefix.specs.declared.Edition.{Edition}
-use Rattle.cdf_prefix.specs.declared.Edition.the-variants.{First, Second}
+use Rattle.cdf_unit_table.specs.Ids.{known, actionAllowed}
+use Rattle.cdf_unit_table.specs.States.{nothing, opens}
+use Rattle.cdf_unit_table.proofs.Bools.{both, past}
+use Rattle.cdf_unit_prefix.specs.Layout.{Layout, layoutOf, prefixOf, idAt}
+use Rattle.cdf_unit_prefix.specs.declared.Edition.{Edition}
+use Rattle.cdf_unit_prefix.specs.declared.Edition.the-variants.{First, Second}
 use Rattle.cdf_grammar.specs.Encoding.{Item}
 use Rattle.cdf_grammar.proofs.Built.{length-unit}
-use Rattle.cdf_units.specs.Check.{checkOf}
-use Rattle.cdf_place.specs.Calls.{isGroup}
-use Rattle.cdf_build.specs.Place.{BuilderPlace, fits}
-use Rattle.cdf_build.specs.Requests.{Request, unit, group, idOf, bytesFor, joining, ending, completed, joined, rightData, acceptedGroup, refused}
-use Rattle.cdf_build.specs.Requests.{advanced, entering, grown}
-use Rattle.cdf_build.specs.Calls.{Decision, room, callNumber, decideOf}
-use Rattle.cdf_build.specs.declared.Begun.{Begun}
-use Rattle.cdf_build.proofs.Fitting.{fitting}
-use Rattle.cdf_build.proofs.Joining.{joined-is}
-use Rattle.cdf_build.proofs.Replying.{call-fitting}
-use Rattle.cdf_join.specs.Parts.{units, ownFault, groupId}
-use Rattle.cdf_join.proofs.Parts.{units-length}
+use Rattle.cdf_unit_list.specs.Check.{checkOf}
+use Rattle.cdf_reader_spec.specs.Calls.{isGroup}
+use Rattle.cdf_builder_spec.specs.Place.{BuilderPlace, fits}
+use Rattle.cdf_builder_spec.specs.Requests.{Request, unit, group, idOf, bytesFor, joining, ending, completed, joined, rightData, acceptedGroup, refused}
+use Rattle.cdf_builder_spec.specs.Requests.{advanced, entering, grown}
+use Rattle.cdf_builder_spec.specs.Calls.{Decision, room, callNumber, decideOf}
+use Rattle.cdf_builder_spec.specs.declared.Begun.{Begun}
+use Rattle.cdf_builder_spec.proofs.Fitting.{fitting}
+use Rattle.cdf_builder_spec.proofs.Joining.{joined-is}
+use Rattle.cdf_builder_spec.proofs.Replying.{call-fitting}
+use Rattle.cdf_builder_join.specs.Parts.{units, ownFault, groupId}
+use Rattle.cdf_builder_join.proofs.Parts.{units-length}
 use Rattle.cdf_builder.specs.View.{view, decisionOf}
 use Rattle.cdf_builder.specs.Grown.{grownBy, growing}
 use Rattle.cdf_builder.specs.declared.Builder.{Builder}

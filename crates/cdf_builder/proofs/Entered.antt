@@ -3,11 +3,11 @@ use Prim.Native.Nat.{ℕ, _+_}
 use mathlib.Core.Path.{_≡_, ap, _∙_}
 use mathlib.Core.List.{List, _∷_}
 use borrow.Author.Tests.{eq-eqb, ne-eqb}
-use Rattle.cdf_build.specs.Place.{BuilderPlace}
-use Rattle.cdf_build.specs.Slots.{placeOf}
-use Rattle.cdf_build.specs.declared.Begun.{Begun}
-use Rattle.cdf_join.specs.Parts.{units}
-use Rattle.cdf_join.proofs.Parts.{units-any}
+use Rattle.cdf_builder_spec.specs.Place.{BuilderPlace}
+use Rattle.cdf_builder_spec.specs.Slots.{placeOf}
+use Rattle.cdf_builder_spec.specs.declared.Begun.{Begun}
+use Rattle.cdf_builder_join.specs.Parts.{units}
+use Rattle.cdf_builder_join.proofs.Parts.{units-any}
 use Rattle.cdf_builder.specs.Grown.{grownBy}
 use Rattle.cdf_builder.specs.declared.Builder.{Builder}
 

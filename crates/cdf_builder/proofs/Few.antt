@@ -4,14 +4,14 @@ use mathlib.Core.Path.{_≡_, ap, _∙_}
 use native.Mathlib.Omega.{arith}
 use borrow.Author.Tests.{ne-eqb}
 use lib.ListN.{length}
-use Rattle.cdf_prefix.specs.Layout.{Layout}
-use Rattle.cdf_build.specs.Place.{BuilderPlace}
-use Rattle.cdf_build.specs.Requests.{Request, grown}
-use Rattle.cdf_build.specs.Calls.{Decision, callNumber, decideOf}
-use Rattle.cdf_build.specs.declared.Begun.{Begun}
-use Rattle.cdf_build.proofs.Keeping.{next-fits}
-use Rattle.cdf_build.proofs.Proved.{proved}
-use Rattle.cdf_join.proofs.Parts.{units-any, units-length}
+use Rattle.cdf_unit_prefix.specs.Layout.{Layout}
+use Rattle.cdf_builder_spec.specs.Place.{BuilderPlace}
+use Rattle.cdf_builder_spec.specs.Requests.{Request, grown}
+use Rattle.cdf_builder_spec.specs.Calls.{Decision, callNumber, decideOf}
+use Rattle.cdf_builder_spec.specs.declared.Begun.{Begun}
+use Rattle.cdf_builder_spec.proofs.Keeping.{next-fits}
+use Rattle.cdf_builder_spec.proofs.Proved.{proved}
+use Rattle.cdf_builder_join.proofs.Parts.{units-any, units-length}
 use Rattle.cdf_builder.specs.View.{view, decisionOf}
 use Rattle.cdf_builder.specs.Grown.{Growable}
 use Rattle.cdf_builder.specs.declared.Builder.{Builder}

@@ -4,14 +4,14 @@ use mathlib.Core.Path.{_≡_, refl, ap, _∙_}
 use mathlib.Core.List.{List}
 use native.Mathlib.Omega.{arith}
 use lib.ListN.{drop}
-use Rattle.cdf_prefix.specs.Layout.{Layout}
+use Rattle.cdf_unit_prefix.specs.Layout.{Layout}
 use Rattle.cdf_grammar.specs.Encoding.{bytesOf}
-use Rattle.cdf_write.specs.Patch.{patch}
-use Rattle.cdf_place.specs.Slots.{around, openUnits}
-use Rattle.cdf_build.specs.Place.{standing}
-use Rattle.cdf_build.specs.Calls.{lengths}
-use Rattle.cdf_build.specs.Slots.{placeOf}
-use Rattle.cdf_build.specs.declared.Begun.{Begun}
+use Rattle.cdf_builder_write.specs.Patch.{patch}
+use Rattle.cdf_reader_spec.specs.Slots.{around, openUnits}
+use Rattle.cdf_builder_spec.specs.Place.{standing}
+use Rattle.cdf_builder_spec.specs.Calls.{lengths}
+use Rattle.cdf_builder_spec.specs.Slots.{placeOf}
+use Rattle.cdf_builder_spec.specs.declared.Begun.{Begun}
 use Rattle.cdf_builder.specs.View.{view}
 use Rattle.cdf_builder.specs.declared.Builder.{Builder}
 

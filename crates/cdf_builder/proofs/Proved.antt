@@ -4,9 +4,9 @@ use mathlib.Core.Path.{_≡_, refl}
 use mathlib.Core.List.{List, [], _∷_}
 use native.Mathlib.Omega.{arith}
 use lib.ListN.{length}
-use Rattle.cdf_place.specs.Slots.{around, openUnits}
-use Rattle.cdf_build.specs.declared.Begun.{Begun}
-use Rattle.cdf_join.specs.Parts.{noBegun}
+use Rattle.cdf_reader_spec.specs.Slots.{around, openUnits}
+use Rattle.cdf_builder_spec.specs.declared.Begun.{Begun}
+use Rattle.cdf_builder_join.specs.Parts.{noBegun}
 use Rattle.cdf_builder.specs.View.{view}
 use Rattle.cdf_builder.specs.Words.{Word, BegunWords, AllWords, StructWords}
 use Rattle.cdf_builder.specs.Claims.{Claims}

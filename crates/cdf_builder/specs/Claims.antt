@@ -2,7 +2,7 @@
 use Prim.Native.Nat.{_≤_}
 use mathlib.Core.Path.{_≡_}
 use lib.ListN.{length}
-use Rattle.cdf_build.specs.Place.{BuilderPlace}
+use Rattle.cdf_builder_spec.specs.Place.{BuilderPlace}
 use Rattle.cdf_builder.specs.View.{view}
 use Rattle.cdf_builder.specs.Words.{PlaceWords, StructWords}
 use Rattle.cdf_builder.specs.declared.Builder.{Builder}

@@ -4,11 +4,11 @@ use mathlib.Core.Path.{_≡_}
 use mathlib.Core.Bool.{cond}
 use mathlib.Core.List.{List, [], _∷_, _++_}
 use lib.Dec.{eqb}
-use Rattle.cdf_prefix.specs.Layout.{Layout}
-use Rattle.cdf_build.specs.Place.{BuilderPlace}
-use Rattle.cdf_build.specs.Calls.{Decision, room}
-use Rattle.cdf_build.specs.declared.Begun.{Begun}
-use Rattle.cdf_join.specs.Parts.{units}
+use Rattle.cdf_unit_prefix.specs.Layout.{Layout}
+use Rattle.cdf_builder_spec.specs.Place.{BuilderPlace}
+use Rattle.cdf_builder_spec.specs.Calls.{Decision, room}
+use Rattle.cdf_builder_spec.specs.declared.Begun.{Begun}
+use Rattle.cdf_builder_join.specs.Parts.{units}
 use Rattle.cdf_builder.specs.View.{view}
 use Rattle.cdf_builder.specs.declared.Builder.{Builder}
 

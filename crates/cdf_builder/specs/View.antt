@@ -1,10 +1,10 @@
 -- Which place of document 01 a struct is, and what the answers say; the struct that holds only zeros.
 use Prim.Native.Nat.{ℕ}
 use mathlib.Core.List.{List}
-use Rattle.cdf_build.specs.Place.{BuilderPlace}
-use Rattle.cdf_build.specs.Calls.{Reply, Decision, Finish}
-use Rattle.cdf_build.specs.Slots.{placeOf}
-use Rattle.cdf_join.specs.Parts.{noBegun}
+use Rattle.cdf_builder_spec.specs.Place.{BuilderPlace}
+use Rattle.cdf_builder_spec.specs.Calls.{Reply, Decision, Finish}
+use Rattle.cdf_builder_spec.specs.Slots.{placeOf}
+use Rattle.cdf_builder_join.specs.Parts.{noBegun}
 use Rattle.cdf_builder.specs.declared.Builder.{Builder}
 use Rattle.cdf_builder.specs.declared.Built.{Built}
 use Rattle.cdf_builder.specs.declared.Finished.{Finished}

@@ -1,8 +1,8 @@
 -- Places and structs whose numbers a field can hold.
 use Prim.Native.Nat.{ℕ, _<_}
 use mathlib.Core.List.{List, [], _∷_}
-use Rattle.cdf_build.specs.Place.{BuilderPlace}
-use Rattle.cdf_build.specs.declared.Begun.{Begun}
+use Rattle.cdf_builder_spec.specs.Place.{BuilderPlace}
+use Rattle.cdf_builder_spec.specs.declared.Begun.{Begun}
 use Rattle.cdf_builder.specs.declared.Builder.{Builder}
 
 -- Numbers that a field of the struct can hold: below 2^64.

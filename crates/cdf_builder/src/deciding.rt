@@ -1,26 +1,26 @@
 // What the builder decides before it writes: whether the place fits, where a unit joins, and the place then.
 ghost use mathlib.Core.Path.{_≡_};
 ghost use Prim.Native.Nat.{_+_, _≤_, _<_};
-ghost use Rattle.cdf_prefix.specs.Layout.{layoutOf};
-ghost use Rattle.cdf_build.specs.Place.{fits};
-ghost use Rattle.cdf_build.specs.Requests.{unit, group, joining, joined, advanced};
-ghost use Rattle.cdf_build.specs.Calls.{decideOf};
-ghost use Rattle.cdf_join.specs.Parts.{units};
+ghost use Rattle.cdf_unit_prefix.specs.Layout.{layoutOf};
+ghost use Rattle.cdf_builder_spec.specs.Place.{fits};
+ghost use Rattle.cdf_builder_spec.specs.Requests.{unit, group, joining, joined, advanced};
+ghost use Rattle.cdf_builder_spec.specs.Calls.{decideOf};
+ghost use Rattle.cdf_builder_join.specs.Parts.{units};
 ghost use Rattle.cdf_builder.specs.View.{view, decisionOf};
 ghost use Rattle.cdf_builder.specs.Grown.{grownBy, Growable, growing};
 use crate::Builder;
 use crate::Built;
-use cdf_build::Begun;
-use cdf_build_fit::fits;
-use cdf_join::Joined;
-use cdf_join::group_id;
-use cdf_join::join;
-use cdf_join::own_fault;
-use cdf_join::room;
-use cdf_prefix::Edition;
-use cdf_prefix::prefix;
-use cdf_table::first_state;
-use cdf_table::is_known;
+use cdf_builder_fit::fits;
+use cdf_builder_join::Joined;
+use cdf_builder_join::group_id;
+use cdf_builder_join::join;
+use cdf_builder_join::own_fault;
+use cdf_builder_join::room;
+use cdf_builder_spec::Begun;
+use cdf_unit_prefix::Edition;
+use cdf_unit_prefix::prefix;
+use cdf_unit_table::first_state;
+use cdf_unit_table::is_known;
 
 impl Builder {
     // Whether the place could belong to a buffer of n bytes.

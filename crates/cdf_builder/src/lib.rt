@@ -1,20 +1,20 @@
 // The builder: a place goes in with each call and a new one comes back; the buffer is lent.
 ghost use mathlib.Core.Path.{_≡_};
 ghost use lib.ListN.{length};
-ghost use Rattle.cdf_prefix.specs.Layout.{layoutOf};
-ghost use Rattle.cdf_prefix.specs.declared.Edition.the-variants.{First};
-ghost use Rattle.cdf_build.specs.Requests.{unit, group};
-ghost use Rattle.cdf_build.specs.Calls.{startOf, decideOf, callOf, finishOf};
-ghost use Rattle.cdf_join.specs.Parts.{noBegun};
+ghost use Rattle.cdf_unit_prefix.specs.Layout.{layoutOf};
+ghost use Rattle.cdf_unit_prefix.specs.declared.Edition.the-variants.{First};
+ghost use Rattle.cdf_builder_spec.specs.Requests.{unit, group};
+ghost use Rattle.cdf_builder_spec.specs.Calls.{startOf, decideOf, callOf, finishOf};
+ghost use Rattle.cdf_builder_join.specs.Parts.{noBegun};
 ghost use Rattle.cdf_builder.specs.View.{view, decisionOf, replyOf, finishedOf, noBuilder};
-use cdf_build::Begun;
-use cdf_join::is_completed;
-use cdf_prefix::Edition;
-use cdf_prefix::prefix;
-use cdf_table::first_state;
-use cdf_table::is_known;
-use cdf_table::is_root_kind;
-use cdf_write::write_unit;
+use cdf_builder_join::is_completed;
+use cdf_builder_spec::Begun;
+use cdf_builder_write::write_unit;
+use cdf_unit_prefix::Edition;
+use cdf_unit_prefix::prefix;
+use cdf_unit_table::first_state;
+use cdf_unit_table::is_known;
+use cdf_unit_table::is_root_kind;
 use writing::write;
 use writing::write_group;
 

@@ -3,18 +3,18 @@ ghost use mathlib.Core.Path.{_≡_};
 ghost use mathlib.Core.List.{[]};
 ghost use Prim.Native.Nat.{_+_, _-_, _≤_};
 ghost use lib.ListN.{drop};
-ghost use Rattle.cdf_prefix.specs.Layout.{layoutOf};
+ghost use Rattle.cdf_unit_prefix.specs.Layout.{layoutOf};
 ghost use Rattle.cdf_grammar.specs.Encoding.{bytesOf, unitBytes};
-ghost use Rattle.cdf_write.specs.Patch.{patch};
-ghost use Rattle.cdf_build.specs.Place.{standing};
-ghost use Rattle.cdf_build.specs.Calls.{lengths, writeOf};
+ghost use Rattle.cdf_builder_write.specs.Patch.{patch};
+ghost use Rattle.cdf_builder_spec.specs.Place.{standing};
+ghost use Rattle.cdf_builder_spec.specs.Calls.{lengths, writeOf};
 ghost use Rattle.cdf_builder.specs.View.{view};
 use crate::Builder;
-use cdf_build::Begun;
-use cdf_prefix::Edition;
-use cdf_write::write_bytes;
-use cdf_write::write_length;
-use cdf_write::write_unit;
+use cdf_builder_spec::Begun;
+use cdf_builder_write::write_bytes;
+use cdf_builder_write::write_length;
+use cdf_builder_write::write_unit;
+use cdf_unit_prefix::Edition;
 
 // Writes the length of an open unit, from its start to where the writing stands.
 fn write_open(edition: Edition, buffer: &mut [u8], written: usize, o: Begun)

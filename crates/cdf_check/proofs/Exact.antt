@@ -7,13 +7,13 @@ use mathlib.Core.List.{List, [], _∷_}
 use mathlib.Core.Logic.{_↔_}
 use native.Mathlib.Omega.{arith}
 use lib.ListN.{length, getD}
-use Rattle.cdf_prefix.specs.Layout.{Layout, layoutOf}
-use Rattle.cdf_prefix.specs.declared.Edition.{Edition}
-use Rattle.cdf_judge.specs.Judge.{judgeOf}
-use Rattle.cdf_judge.specs.declared.Judged.{Judged}
-use Rattle.cdf_units.specs.Units.{End, unfinished, ended, fault, listing, listingIn}
-use Rattle.cdf_units.specs.Check.{Answer, checkOf, checkIn}
-use Rattle.cdf_units.proofs.Numbered.{numbered}
+use Rattle.cdf_unit_prefix.specs.Layout.{Layout, layoutOf}
+use Rattle.cdf_unit_prefix.specs.declared.Edition.{Edition}
+use Rattle.cdf_unit_judge.specs.Judge.{judgeOf}
+use Rattle.cdf_unit_judge.specs.declared.Judged.{Judged}
+use Rattle.cdf_unit_list.specs.Units.{End, unfinished, ended, fault, listing, listingIn}
+use Rattle.cdf_unit_list.specs.Check.{Answer, checkOf, checkIn}
+use Rattle.cdf_unit_list.proofs.Numbered.{numbered}
 use Rattle.cdf_grammar.specs.Trees.{Forest, units}
 use Rattle.cdf_grammar.specs.Encoding.{Bytes, Stream}
 use Rattle.cdf_grammar.proofs.Proved.{proved}

@@ -8,27 +8,27 @@ use borrow.Author.Tests.{ltb-true, ltb-false, eq-eqb, ne-eqb}
 use lib.Dec.{ltb}
 use lib.ListN.{length, take, drop, length-drop, length-reverse}
 use lib.Seq.{take-length}
-use Rattle.cdf_prefix.specs.Layout.{Layout}
-use Rattle.cdf_table.specs.States.{opens, nothing, complete}
-use Rattle.cdf_judge.specs.Judge.{judgeOf}
-use Rattle.cdf_units.specs.Units.{End, unfinished, ended, fault, Listing, listBy}
-use Rattle.cdf_units.specs.Stack.{incomplete, close, Step, done, refused, found, entered, stepIn, step}
-use Rattle.cdf_units.specs.Stack.{stepsFrom, steps}
-use Rattle.cdf_units.specs.Check.{answerOf, answer}
-use Rattle.cdf_units.specs.declared.Unit.{Unit}
-use Rattle.cdf_units.specs.declared.Open.{Open}
-use Rattle.cdf_judge.specs.declared.Judged.{Judged}
-use Rattle.cdf_judge.specs.declared.Judged.the-variants.{Fault, Found}
-use Rattle.cdf_judge.proofs.Placed.{placed}
-use Rattle.cdf_units.proofs.Agreement.{follows}
-use Rattle.cdf_units.proofs.Fuel.{finishes}
+use Rattle.cdf_unit_prefix.specs.Layout.{Layout}
+use Rattle.cdf_unit_table.specs.States.{opens, nothing, complete}
+use Rattle.cdf_unit_judge.specs.Judge.{judgeOf}
+use Rattle.cdf_unit_list.specs.Units.{End, unfinished, ended, fault, Listing, listBy}
+use Rattle.cdf_unit_list.specs.Stack.{incomplete, close, Step, done, refused, found, entered, stepIn, step}
+use Rattle.cdf_unit_list.specs.Stack.{stepsFrom, steps}
+use Rattle.cdf_unit_list.specs.Check.{answerOf, answer}
+use Rattle.cdf_unit_list.specs.declared.Unit.{Unit}
+use Rattle.cdf_unit_list.specs.declared.Open.{Open}
+use Rattle.cdf_unit_judge.specs.declared.Judged.{Judged}
+use Rattle.cdf_unit_judge.specs.declared.Judged.the-variants.{Fault, Found}
+use Rattle.cdf_unit_judge.proofs.Placed.{placed}
+use Rattle.cdf_unit_list.proofs.Agreement.{follows}
+use Rattle.cdf_unit_list.proofs.Fuel.{finishes}
 use Rattle.cdf_check.specs.Answers.{checkedBy, checkedOf, paperOf}
 use Rattle.cdf_check.specs.Walk.{Nested, finish, andThen, turn, walk, insideOf, front}
-use Rattle.cdf_table.specs.Heights.{heightIn}
+use Rattle.cdf_unit_table.specs.Heights.{heightIn}
 use Rattle.cdf_check.specs.declared.Checked.{Checked}
 use Rattle.cdf_check.specs.declared.Checked.the-variants.{Accepted, Refused}
-use Rattle.cdf_table.proofs.Heights.{falls, opens-lower, height-most}
-use Rattle.cdf_table.proofs.Parts.{Part, left-of, part-of}
+use Rattle.cdf_unit_table.proofs.Heights.{falls, opens-lower, height-most}
+use Rattle.cdf_unit_table.proofs.Parts.{Part, left-of, part-of}
 
 abbrev frame : ℕ → ℕ → ℕ → Open
 frame state start end = record { state = state; start = start; end = end }

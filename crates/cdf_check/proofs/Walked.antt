@@ -7,18 +7,18 @@ use native.Mathlib.Omega.{arith}
 use native.Mathlib.Numerals.{sub-one}
 use borrow.Author.Tests.{lt-ltb, le-ltb}
 use lib.ListN.{length, take, drop, length-drop}
-use Rattle.cdf_prefix.specs.Layout.{Layout}
-use Rattle.cdf_table.specs.States.{opens, nothing, complete}
-use Rattle.cdf_judge.specs.Judge.{judgeOf}
-use Rattle.cdf_judge.specs.declared.Judged.{Judged}
-use Rattle.cdf_judge.specs.declared.Judged.the-variants.{Fault, Found}
-use Rattle.cdf_judge.proofs.Placed.{placed}
+use Rattle.cdf_unit_prefix.specs.Layout.{Layout}
+use Rattle.cdf_unit_table.specs.States.{opens, nothing, complete}
+use Rattle.cdf_unit_judge.specs.Judge.{judgeOf}
+use Rattle.cdf_unit_judge.specs.declared.Judged.{Judged}
+use Rattle.cdf_unit_judge.specs.declared.Judged.the-variants.{Fault, Found}
+use Rattle.cdf_unit_judge.proofs.Placed.{placed}
 use Rattle.cdf_check.specs.Walk.{Nested, finish, andThen, turn, walk, insideOf, front}
-use Rattle.cdf_table.specs.Heights.{height, heightIn}
+use Rattle.cdf_unit_table.specs.Heights.{height, heightIn}
 use Rattle.cdf_check.specs.declared.Checked.{Checked}
 use Rattle.cdf_check.specs.declared.Checked.the-variants.{Accepted, Refused}
-use Rattle.cdf_table.proofs.Heights.{falls, opens-lower}
-use Rattle.cdf_table.proofs.Rows.{opens-by, leaf-by}
+use Rattle.cdf_unit_table.proofs.Heights.{falls, opens-lower}
+use Rattle.cdf_unit_table.proofs.Rows.{opens-by, leaf-by}
 
 -- What the loop keeps: the walk from here, with fuel enough for what is left, answers as the whole check.
 pub record Going (l : Layout) (levels : ℕ) (s : List ℕ) (state base body count at now n : ℕ) : Type 0 where

@@ -1,8 +1,8 @@
 -- The answers that the check gives, as the cases of `Checked` and as document 01 numbers them.
 use Prim.Native.Nat.{ℕ}
 use lib.ListN.{length}
-use Rattle.cdf_units.specs.Units.{End, unfinished, ended, fault, Listing}
-use Rattle.cdf_units.specs.Check.{Answer}
+use Rattle.cdf_unit_list.specs.Units.{End, unfinished, ended, fault, Listing}
+use Rattle.cdf_unit_list.specs.Check.{Answer}
 use Rattle.cdf_check.specs.declared.Checked.{Checked}
 use Rattle.cdf_check.specs.declared.Checked.the-variants.{Accepted, Refused}
 

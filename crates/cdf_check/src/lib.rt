@@ -4,22 +4,22 @@ ghost use mathlib.Core.Bool.{Bool};
 ghost use mathlib.Core.Logic.{_↔_};
 ghost use Prim.Native.Nat.{ℕ, _+_, _≤_, _<_};
 ghost use lib.ListN.{length};
-ghost use Rattle.cdf_table.specs.Heights.{heightIn};
-ghost use Rattle.cdf_prefix.specs.Layout.{layoutOf};
-ghost use Rattle.cdf_prefix.specs.declared.Edition.the-variants.{First};
-ghost use Rattle.cdf_judge.specs.Judge.{judgeOf};
-ghost use Rattle.cdf_units.specs.Units.{listing, listingIn};
-ghost use Rattle.cdf_units.specs.Check.{checkOf, checkIn};
+ghost use Rattle.cdf_unit_table.specs.Heights.{heightIn};
+ghost use Rattle.cdf_unit_prefix.specs.Layout.{layoutOf};
+ghost use Rattle.cdf_unit_prefix.specs.declared.Edition.the-variants.{First};
+ghost use Rattle.cdf_unit_judge.specs.Judge.{judgeOf};
+ghost use Rattle.cdf_unit_list.specs.Units.{listing, listingIn};
+ghost use Rattle.cdf_unit_list.specs.Check.{checkOf, checkIn};
 ghost use Rattle.cdf_grammar.specs.Trees.{Forest, units};
 ghost use Rattle.cdf_grammar.specs.Encoding.{Stream};
 ghost use Rattle.cdf_check.specs.Answers.{checkedOf, paperOf};
 ghost use Rattle.cdf_check.specs.Walk.{insideOf, front};
-use cdf_judge::Judged;
-use cdf_judge::judge;
-use cdf_judge::judge_root;
-use cdf_prefix::Edition;
-use cdf_table::first_state;
-use cdf_table::is_complete;
+use cdf_unit_judge::Judged;
+use cdf_unit_judge::judge;
+use cdf_unit_judge::judge_root;
+use cdf_unit_prefix::Edition;
+use cdf_unit_table::first_state;
+use cdf_unit_table::is_complete;
 
 // What the check found: the number of units of a right stream, or the first fault's number and offset.
 pub enum Checked {

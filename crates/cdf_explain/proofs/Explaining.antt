@@ -4,30 +4,30 @@ use mathlib.Core.Path.{_≡_, refl, ap, sym, _∙_}
 use mathlib.Core.List.{List, [], _∷_, reverseAux}
 use native.Mathlib.Omega.{arith}
 use lib.ListN.{length}
-use Rattle.cdf_prefix.specs.Layout.{Layout}
-use Rattle.cdf_units.specs.Units.{End, fault, listing}
-use Rattle.cdf_units.specs.Stack.{Step, step}
-use Rattle.cdf_units.specs.declared.Unit.{Unit}
-use Rattle.cdf_units.proofs.Proved.{proved}
-use Rattle.cdf_place.specs.Place.{ReaderPlace, every}
-use Rattle.cdf_place.specs.Calls.{Reply, emptyPlace, stepped, firstOf, nextOf}
-use Rattle.cdf_place.specs.Closing.{unclosed, closedAt}
-use Rattle.cdf_place.specs.Slots.{openUnits}
-use Rattle.cdf_place.proofs.Fitting.{fitting}
-use Rattle.cdf_place.proofs.Opened.{at-most-four}
-use Rattle.cdf_place.proofs.Replying.{start, first-is}
-use Rattle.cdf_runs.proofs.Around.{placeAt}
-use Rattle.cdf_runs.proofs.Keeps.{Keeps, first-keeps, next-keeps}
-use Rattle.cdf_runs.proofs.Replies.{next-is}
-use Rattle.cdf_runs.proofs.Steps.{Run, ends, breaks, hands, listed}
+use Rattle.cdf_unit_prefix.specs.Layout.{Layout}
+use Rattle.cdf_unit_list.specs.Units.{End, fault, listing}
+use Rattle.cdf_unit_list.specs.Stack.{Step, step}
+use Rattle.cdf_unit_list.specs.declared.Unit.{Unit}
+use Rattle.cdf_unit_list.proofs.Proved.{proved}
+use Rattle.cdf_reader_spec.specs.Place.{ReaderPlace, every}
+use Rattle.cdf_reader_spec.specs.Calls.{Reply, emptyPlace, stepped, firstOf, nextOf}
+use Rattle.cdf_reader_spec.specs.Closing.{unclosed, closedAt}
+use Rattle.cdf_reader_spec.specs.Slots.{openUnits}
+use Rattle.cdf_reader_spec.proofs.Fitting.{fitting}
+use Rattle.cdf_reader_spec.proofs.Opened.{at-most-four}
+use Rattle.cdf_reader_spec.proofs.Replying.{start, first-is}
+use Rattle.cdf_reader_runs.proofs.Around.{placeAt}
+use Rattle.cdf_reader_runs.proofs.Keeps.{Keeps, first-keeps, next-keeps}
+use Rattle.cdf_reader_runs.proofs.Replies.{next-is}
+use Rattle.cdf_reader_runs.proofs.Steps.{Run, ends, breaks, hands, listed}
 use Rattle.cdf_reader.specs.View.{view}
 use Rattle.cdf_reader.specs.declared.Place.{Place}
 use Rattle.cdf_reader.proofs.Counted.{length-open}
-use Rattle.cdf_why.specs.Why.{nothingWrong, openAround, whyAfter, whyOf}
-use Rattle.cdf_why.proofs.Stands.{Stands, stands-next, why-after}
-use Rattle.cdf_why.proofs.Ids.{unclosed-states, unclosed-few}
-use Rattle.cdf_why.proofs.Inwards.{around-opens}
-use Rattle.cdf_why.proofs.Told.{around-units}
+use Rattle.cdf_explain_spec.specs.Why.{nothingWrong, openAround, whyAfter, whyOf}
+use Rattle.cdf_explain_spec.proofs.Stands.{Stands, stands-next, why-after}
+use Rattle.cdf_explain_spec.proofs.Ids.{unclosed-states, unclosed-few}
+use Rattle.cdf_explain_spec.proofs.Inwards.{around-opens}
+use Rattle.cdf_explain_spec.proofs.Told.{around-units}
 use Rattle.cdf_explain.specs.Numbers.{explainedBy}
 use Rattle.cdf_explain.specs.Parts.{toldAt}
 use Rattle.cdf_explain.proofs.Telling.{told-why}

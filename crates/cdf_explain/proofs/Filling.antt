@@ -7,11 +7,11 @@ use native.Mathlib.Omega.{arith}
 use lib.Dec.{eqb, ltb, ltb→lt}
 use lib.ListN.{length, set, replicate, length-append}
 use lib.Seq.{set-append-seam, append-snoc}
-use Rattle.cdf_table.specs.Ids.{member, idsEnd}
-use Rattle.cdf_table.specs.States.{rows, admit, rootKind}
-use Rattle.cdf_table.specs.Tables.{those}
-use Rattle.cdf_table.proofs.Bools.{of-cond}
-use Rattle.cdf_table.proofs.Rows.{from-rows}
+use Rattle.cdf_unit_table.specs.Ids.{member, idsEnd}
+use Rattle.cdf_unit_table.specs.States.{rows, admit, rootKind}
+use Rattle.cdf_unit_table.specs.Tables.{those}
+use Rattle.cdf_unit_table.proofs.Bools.{of-cond}
+use Rattle.cdf_unit_table.proofs.Rows.{from-rows}
 use Rattle.cdf_explain.specs.Numbers.{padded}
 use Rattle.cdf_explain.specs.Parts.{maysAt}
 

@@ -3,9 +3,9 @@ use Prim.Native.Nat.{ℕ, zero, suc, _≤_}
 use mathlib.Core.Path.{_≡_, refl}
 use mathlib.Core.List.{List, [], _∷_}
 use native.Mathlib.Omega.{arith}
-use Rattle.cdf_table.specs.States.{unitOf}
-use Rattle.cdf_units.specs.declared.Open.{Open}
-use Rattle.cdf_place.specs.Slots.{around, openUnits}
+use Rattle.cdf_unit_table.specs.States.{unitOf}
+use Rattle.cdf_unit_list.specs.declared.Open.{Open}
+use Rattle.cdf_reader_spec.specs.Slots.{around, openUnits}
 use Rattle.cdf_explain.specs.Parts.{level, choicesOf, toldAt}
 use Rattle.cdf_explain.specs.declared.Explained.{Explained}
 

@@ -6,14 +6,14 @@ use mathlib.Core.List.{List, [], _∷_, map, reverse, reverseAux}
 use native.Mathlib.Omega.{arith}
 use borrow.Author.Tests.{ne-eqb}
 use lib.ListN.{length, length-map, length-reverse}
-use Rattle.cdf_table.specs.States.{opens, unitOf}
-use Rattle.cdf_units.specs.declared.Unit.{Unit}
-use Rattle.cdf_units.specs.declared.Open.{Open}
-use Rattle.cdf_units.proofs.StatesListed.{openOf}
-use Rattle.cdf_place.proofs.Fitting.{States}
-use Rattle.cdf_why.specs.Why.{admittedBy}
-use Rattle.cdf_why.specs.Claims.{Each}
-use Rattle.cdf_why.proofs.Ids.{same-ids}
+use Rattle.cdf_unit_table.specs.States.{opens, unitOf}
+use Rattle.cdf_unit_list.specs.declared.Unit.{Unit}
+use Rattle.cdf_unit_list.specs.declared.Open.{Open}
+use Rattle.cdf_unit_list.proofs.StatesListed.{openOf}
+use Rattle.cdf_reader_spec.proofs.Fitting.{States}
+use Rattle.cdf_explain_spec.specs.Why.{admittedBy}
+use Rattle.cdf_explain_spec.specs.Claims.{Each}
+use Rattle.cdf_explain_spec.proofs.Ids.{same-ids}
 use Rattle.cdf_explain.specs.Numbers.{explainedBy}
 use Rattle.cdf_explain.specs.Parts.{idsAt, innermost, toldAt}
 

@@ -2,8 +2,8 @@
 use Prim.Native.Nat.{ℕ, _-_}
 use mathlib.Core.List.{List, _++_, map}
 use lib.ListN.{length, replicate}
-use Rattle.cdf_units.specs.declared.Unit.{Unit}
-use Rattle.cdf_why.specs.Why.{Why}
+use Rattle.cdf_unit_list.specs.declared.Unit.{Unit}
+use Rattle.cdf_explain_spec.specs.Why.{Why}
 use Rattle.cdf_explain.specs.declared.Explained.{Explained}
 
 -- The numbers in so many entries, and zeros in those that are not used.

@@ -4,11 +4,11 @@ use mathlib.Core.Bool.{Bool, not, cond}
 use mathlib.Core.List.{List, [], _∷_, map, reverse}
 use lib.Dec.{eqb, ltb}
 use lib.ListN.{length}
-use Rattle.cdf_table.specs.Ids.{idsEnd}
-use Rattle.cdf_table.specs.States.{unitOf, admit, rootKind}
-use Rattle.cdf_table.specs.Tables.{those}
-use Rattle.cdf_units.specs.declared.Open.{Open}
-use Rattle.cdf_place.specs.Slots.{noOpen}
+use Rattle.cdf_unit_table.specs.Ids.{idsEnd}
+use Rattle.cdf_unit_table.specs.States.{unitOf, admit, rootKind}
+use Rattle.cdf_unit_table.specs.Tables.{those}
+use Rattle.cdf_unit_list.specs.declared.Open.{Open}
+use Rattle.cdf_reader_spec.specs.Slots.{noOpen}
 use Rattle.cdf_explain.specs.Numbers.{padded}
 use Rattle.cdf_explain.specs.declared.Explained.{Explained}
 use Rattle.cdf_explain.specs.declared.Choices.{Choices}

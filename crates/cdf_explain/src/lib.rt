@@ -1,20 +1,20 @@
 // Why a stream is refused: where the refused unit stands, and what could have stood there.
 ghost use Prim.Native.Nat.{_≤_};
 ghost use mathlib.Core.Path.{_≡_};
-ghost use Rattle.cdf_prefix.specs.Layout.{layoutOf};
-ghost use Rattle.cdf_prefix.specs.declared.Edition.the-variants.{First};
-ghost use Rattle.cdf_table.specs.States.{unitOf};
-ghost use Rattle.cdf_place.specs.Slots.{openUnits};
-ghost use Rattle.cdf_why.specs.Why.{whyOf};
+ghost use Rattle.cdf_unit_prefix.specs.Layout.{layoutOf};
+ghost use Rattle.cdf_unit_prefix.specs.declared.Edition.the-variants.{First};
+ghost use Rattle.cdf_unit_table.specs.States.{unitOf};
+ghost use Rattle.cdf_reader_spec.specs.Slots.{openUnits};
+ghost use Rattle.cdf_explain_spec.specs.Why.{whyOf};
 ghost use Rattle.cdf_explain.specs.Numbers.{explainedBy};
 ghost use Rattle.cdf_explain.specs.Parts.{level, maysAt, choicesOf, toldAt};
 use cdf_reader::Place;
 use cdf_reader::first;
-use cdf_table::IDS_END;
-use cdf_table::STREAM;
-use cdf_table::is_root_kind;
-use cdf_table::state_after;
-use cdf_units::Open;
+use cdf_unit_list::Open;
+use cdf_unit_table::IDS_END;
+use cdf_unit_table::STREAM;
+use cdf_unit_table::is_root_kind;
+use cdf_unit_table::state_after;
 
 // What is told of a stream. The number and the offset are the check's, 0 and 0 for an accepted one. Then how many units are open where
 // the refused unit stands, id and start of each, the root first; and how many ids the innermost of them admits there, and these, rising.

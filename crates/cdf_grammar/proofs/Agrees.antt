@@ -8,10 +8,10 @@ use native.Mathlib.Omega.{arith}
 use lib.Dec.{T, eqb, eqb→eq}
 use lib.ListN.{length, take}
 use lib.Seq.{take-append-seam, take-length}
-use Rattle.cdf_prefix.specs.Layout.{Layout}
-use Rattle.cdf_table.specs.Ids.{member, actionAllowed, stream, erGroup, fileGroup}
-use Rattle.cdf_table.specs.States.{opens, rootKind}
-use Rattle.cdf_table.proofs.Tests.{or-else}
+use Rattle.cdf_unit_prefix.specs.Layout.{Layout}
+use Rattle.cdf_unit_table.specs.Ids.{member, actionAllowed, stream, erGroup, fileGroup}
+use Rattle.cdf_unit_table.specs.States.{opens, rootKind}
+use Rattle.cdf_unit_table.proofs.Tests.{or-else}
 use Rattle.cdf_grammar.specs.Content.{Spells}
 use Rattle.cdf_grammar.specs.Trees.{Forest, none, tree, ids}
 use Rattle.cdf_grammar.specs.Published.{Follows, Conforms, productionOf, cdfDataStream}

@@ -7,26 +7,26 @@ use native.Mathlib.Omega.{arith}
 use native.Mathlib.Decide.{decLt}
 use lib.ListN.{length, take, drop, length-take, take-append-drop}
 use lib.Seq.{take-take, take-length, drop-drop}
-use Rattle.cdf_prefix.specs.Layout.{Layout, prefixOf}
-use Rattle.cdf_table.specs.States.{opens, nothing, admit, complete, rootKind}
-use Rattle.cdf_judge.specs.Judge.{judgeOf}
-use Rattle.cdf_units.specs.Units.{after, ended, Listing, listing}
-use Rattle.cdf_units.specs.Stack.{opened, withState, step, stepsFrom}
-use Rattle.cdf_units.specs.declared.Unit.{Unit}
-use Rattle.cdf_units.specs.declared.Open.{Open}
-use Rattle.cdf_judge.specs.declared.Judged.{Judged}
-use Rattle.cdf_judge.specs.declared.Judged.the-variants.{Fault, Found}
-use Rattle.cdf_judge.proofs.Placed.{Placed, placed}
-use Rattle.cdf_units.proofs.Entering.{unitOf}
+use Rattle.cdf_unit_prefix.specs.Layout.{Layout, prefixOf}
+use Rattle.cdf_unit_table.specs.States.{opens, nothing, admit, complete, rootKind}
+use Rattle.cdf_unit_judge.specs.Judge.{judgeOf}
+use Rattle.cdf_unit_list.specs.Units.{after, ended, Listing, listing}
+use Rattle.cdf_unit_list.specs.Stack.{opened, withState, step, stepsFrom}
+use Rattle.cdf_unit_list.specs.declared.Unit.{Unit}
+use Rattle.cdf_unit_list.specs.declared.Open.{Open}
+use Rattle.cdf_unit_judge.specs.declared.Judged.{Judged}
+use Rattle.cdf_unit_judge.specs.declared.Judged.the-variants.{Fault, Found}
+use Rattle.cdf_unit_judge.proofs.Placed.{Placed, placed}
+use Rattle.cdf_unit_list.proofs.Entering.{unitOf}
 use Rattle.cdf_grammar.specs.Trees.{Forest, none, tree, ids}
 use Rattle.cdf_grammar.specs.Encoding.{encode, Bytes}
 use Rattle.cdf_grammar.proofs.Fits.{through, Fits}
-use Rattle.cdf_table.proofs.Parts.{drop-take}
+use Rattle.cdf_unit_table.proofs.Parts.{drop-take}
 use Rattle.cdf_grammar.proofs.Parts.{part-left, part-bytes}
 use Rattle.cdf_grammar.proofs.Written.{textOf, UnitIs, unit-written}
-use Rattle.cdf_table.proofs.Rows.{admits-nested, root-kind}
-use Rattle.cdf_units.proofs.Stepping.{fresh, step-inside, step-closes, steps-on, listing-steps}
-use Rattle.cdf_units.proofs.Stepping.{faults, enters, opened-parent, refused-never, spent-never}
+use Rattle.cdf_unit_table.proofs.Rows.{admits-nested, root-kind}
+use Rattle.cdf_unit_list.proofs.Stepping.{fresh, step-inside, step-closes, steps-on, listing-steps}
+use Rattle.cdf_unit_list.proofs.Stepping.{faults, enters, opened-parent, refused-never, spent-never}
 use Rattle.cdf_grammar.proofs.Nesting.{leaves, nest-unit}
 use Rattle.cdf_grammar.proofs.Built.{encode-none, encode-tree}
 

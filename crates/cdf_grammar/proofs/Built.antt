@@ -6,12 +6,12 @@ use Prim.Native.Nat.{ℕ, _+_, _-_, _^_, _≤_, _<_}
 use native.Mathlib.Omega.{arith}
 use lib.ListN.{length, length-append}
 use lib.Seq.{take-at, drop-at}
-use Rattle.cdf_prefix.specs.Layout.{Layout, prefixOf}
-use Rattle.cdf_table.specs.States.{admits}
-use Rattle.cdf_judge.specs.Judge.{judgeOf}
-use Rattle.cdf_judge.specs.declared.Judged.the-variants.{Found}
-use Rattle.cdf_judge.proofs.Placed.{judged}
-use Rattle.cdf_data.proofs.Taken.{taken-fits}
+use Rattle.cdf_unit_prefix.specs.Layout.{Layout, prefixOf}
+use Rattle.cdf_unit_table.specs.States.{admits}
+use Rattle.cdf_unit_judge.specs.Judge.{judgeOf}
+use Rattle.cdf_unit_judge.specs.declared.Judged.the-variants.{Found}
+use Rattle.cdf_unit_judge.proofs.Placed.{judged}
+use Rattle.cdf_unit_data.proofs.Taken.{taken-fits}
 use Rattle.cdf_grammar.specs.Trees.{Forest, none, tree}
 use Rattle.cdf_grammar.specs.Encoding.{prefixBytes, unitBytes, encode}
 use Rattle.cdf_grammar.proofs.Fits.{ownOf, Passes}

@@ -8,9 +8,9 @@ use native.Mathlib.Omega.{arith}
 use borrow.Author.Tests.{ne-eqb}
 use lib.Dec.{eqb}
 use lib.ListN.{getD}
-use Rattle.cdf_table.specs.Ids.{call, template, temporaryKey, relationKey, line}
-use Rattle.cdf_table.specs.States.{statesEnd, complete, admit}
-use Rattle.cdf_table.proofs.Tests.{is-true, below-at}
+use Rattle.cdf_unit_table.specs.Ids.{call, template, temporaryKey, relationKey, line}
+use Rattle.cdf_unit_table.specs.States.{statesEnd, complete, admit}
+use Rattle.cdf_unit_table.proofs.Tests.{is-true, below-at}
 use Rattle.cdf_grammar.specs.Content.{end}
 use Rattle.cdf_grammar.specs.Trees.{Forest, none, tree, ids}
 use Rattle.cdf_grammar.specs.Published.{productionOf, Name, Conforms}

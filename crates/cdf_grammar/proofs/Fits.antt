@@ -5,11 +5,11 @@ use mathlib.Core.Bool.{true, false}
 use mathlib.Core.List.{List, [], _∷_, _++_}
 use native.Mathlib.Omega.{arith}
 use lib.ListN.{length}
-use Rattle.cdf_prefix.specs.Layout.{Layout}
-use Rattle.cdf_table.specs.Ids.{known, actionAllowed}
-use Rattle.cdf_table.specs.States.{opens, nothing, admit, complete}
-use Rattle.cdf_data.specs.Data.{ownData}
-use Rattle.cdf_data.specs.declared.Own.the-variants.{Taken}
+use Rattle.cdf_unit_prefix.specs.Layout.{Layout}
+use Rattle.cdf_unit_table.specs.Ids.{known, actionAllowed}
+use Rattle.cdf_unit_table.specs.States.{opens, nothing, admit, complete}
+use Rattle.cdf_unit_data.specs.Data.{ownData}
+use Rattle.cdf_unit_data.specs.declared.Own.the-variants.{Taken}
 use Rattle.cdf_grammar.specs.Trees.{Forest, none, tree, ids}
 use Rattle.cdf_grammar.specs.Published.{productionOf}
 use Rattle.cdf_grammar.specs.Encoding.{encode, ownLength}

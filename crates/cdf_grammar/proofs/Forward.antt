@@ -6,23 +6,23 @@ use Prim.Native.Nat.{ℕ, suc, _+_, _-_, _^_, _≤_, _<_}
 use native.Mathlib.Omega.{arith}
 use lib.ListN.{length, take, drop, length-append, length-drop}
 use lib.Seq.{take-append-add, drop-at, drop-drop}
-use Rattle.cdf_prefix.specs.Layout.{Layout, prefixOf}
-use Rattle.cdf_table.specs.States.{opens, nothing, admit, rootKind}
-use Rattle.cdf_judge.specs.Judge.{judgeOf}
-use Rattle.cdf_units.specs.Units.{after, listing, ended}
-use Rattle.cdf_units.specs.Stack.{opened, entered, withState, step, stepsFrom}
-use Rattle.cdf_units.specs.declared.Unit.{Unit}
-use Rattle.cdf_units.specs.declared.Open.{Open}
-use Rattle.cdf_judge.specs.declared.Judged.the-variants.{Found}
-use Rattle.cdf_units.proofs.Entering.{unitOf}
+use Rattle.cdf_unit_prefix.specs.Layout.{Layout, prefixOf}
+use Rattle.cdf_unit_table.specs.States.{opens, nothing, admit, rootKind}
+use Rattle.cdf_unit_judge.specs.Judge.{judgeOf}
+use Rattle.cdf_unit_list.specs.Units.{after, listing, ended}
+use Rattle.cdf_unit_list.specs.Stack.{opened, entered, withState, step, stepsFrom}
+use Rattle.cdf_unit_list.specs.declared.Unit.{Unit}
+use Rattle.cdf_unit_list.specs.declared.Open.{Open}
+use Rattle.cdf_unit_judge.specs.declared.Judged.the-variants.{Found}
+use Rattle.cdf_unit_list.proofs.Entering.{unitOf}
 use Rattle.cdf_grammar.specs.Trees.{Forest, none, tree, ids, units}
 use Rattle.cdf_grammar.specs.Encoding.{unitBytes, encode, list}
 use Rattle.cdf_grammar.proofs.Fits.{through, through-none, complete-some, ownOf, Passes, Fits}
 use Rattle.cdf_grammar.proofs.Prefixes.{length-prefix}
 use Rattle.cdf_grammar.proofs.Built.{encode-none, encode-tree, sizeOf, unit-is, length-unit, unit-judged}
-use Rattle.cdf_table.proofs.Rows.{admits-nested, admits-root, root-opens}
-use Rattle.cdf_units.proofs.Stepping.{fresh, step-inside, step-closes, steps-end, steps-on}
-use Rattle.cdf_units.proofs.Stepping.{listing-steps, enters, opened-parent, opened-leaf}
+use Rattle.cdf_unit_table.proofs.Rows.{admits-nested, admits-root, root-opens}
+use Rattle.cdf_unit_list.proofs.Stepping.{fresh, step-inside, step-closes, steps-end, steps-on}
+use Rattle.cdf_unit_list.proofs.Stepping.{listing-steps, enters, opened-parent, opened-leaf}
 
 -- Where the units nested in a unit with this text stand.
 abbrev innerAt : Layout → ℕ → List ℕ → ℕ

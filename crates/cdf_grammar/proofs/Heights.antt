@@ -4,10 +4,10 @@ use mathlib.Core.Path.{_≡_, refl}
 use mathlib.Core.Bool.{Bool, true, false}
 use mathlib.Core.List.{List, [], _∷_}
 use native.Mathlib.Omega.{arith}
-use Rattle.cdf_prefix.specs.Layout.{Layout}
-use Rattle.cdf_table.specs.States.{admit, opens, nothing, unitOf}
-use Rattle.cdf_table.specs.Heights.{height}
-use Rattle.cdf_table.proofs.Heights.{level, admit-lower, opens-lower, height-most}
+use Rattle.cdf_unit_prefix.specs.Layout.{Layout}
+use Rattle.cdf_unit_table.specs.States.{admit, opens, nothing, unitOf}
+use Rattle.cdf_unit_table.specs.Heights.{height}
+use Rattle.cdf_unit_table.proofs.Heights.{level, admit-lower, opens-lower, height-most}
 use Rattle.cdf_grammar.specs.Trees.{Forest, none, tree, ids, depth}
 use Rattle.cdf_grammar.proofs.Fits.{through, through-none, complete-some, Passes, Fits}
 

@@ -6,15 +6,15 @@ use mathlib.Core.List.{List, [], _∷_, _++_, map, append-assoc, append-nil, map
 use native.Mathlib.Omega.{arith}
 use lib.ListN.{length, take, drop}
 use lib.Seq.{take-at, drop-drop, drop-append-seam}
-use Rattle.cdf_prefix.specs.Layout.{Layout, prefixOf}
-use Rattle.cdf_table.specs.States.{opens}
-use Rattle.cdf_units.specs.declared.Unit.{Unit}
+use Rattle.cdf_unit_prefix.specs.Layout.{Layout, prefixOf}
+use Rattle.cdf_unit_table.specs.States.{opens}
+use Rattle.cdf_unit_list.specs.declared.Unit.{Unit}
 use Rattle.cdf_grammar.specs.Trees.{Forest, none, tree, ids}
 use Rattle.cdf_grammar.specs.Published.{Conforms}
 use Rattle.cdf_grammar.specs.Encoding.{prefixBytes, unitBytes, encode, list, Item, itemOf, says}
 use Rattle.cdf_grammar.proofs.Fits.{ownOf, Passes, Fits}
-use Rattle.cdf_table.specs.Heights.{height}
-use Rattle.cdf_table.proofs.Heights.{height-most}
+use Rattle.cdf_unit_table.specs.Heights.{height}
+use Rattle.cdf_unit_table.proofs.Heights.{height-most}
 use Rattle.cdf_grammar.proofs.Heights.{OfHeight, Lower, lower, nested}
 use Rattle.cdf_grammar.proofs.Unique.{leaf-empty, unit-parts}
 use Rattle.cdf_grammar.proofs.Prefixes.{length-prefix}

@@ -8,13 +8,13 @@ use native.Mathlib.Omega.{arith}
 use borrow.Author.Tests.{le-leb, le-ltb, eq-eqb, eqb-true}
 use lib.Dec.{eqb}
 use lib.ListN.{List·getD-eq-default}
-use Rattle.cdf_table.specs.Ids.{member, Rule, blank, name, nameValue, value, numbers, kinds, kindOf, known, actionAllowed, idsEnd}
-use Rattle.cdf_table.specs.States.{opens}
-use Rattle.cdf_table.proofs.Bools.{either}
-use Rattle.cdf_table.proofs.Rows.{none-opens}
+use Rattle.cdf_unit_table.specs.Ids.{member, Rule, blank, name, nameValue, value, numbers, kinds, kindOf, known, actionAllowed, idsEnd}
+use Rattle.cdf_unit_table.specs.States.{opens}
+use Rattle.cdf_unit_table.proofs.Bools.{either}
+use Rattle.cdf_unit_table.proofs.Rows.{none-opens}
 use Rattle.cdf_grammar.specs.Content.{Content, empty}
 use Rattle.cdf_grammar.specs.Published.{Text, noText, nameText, nameAndValue, valueText, numberText, productions, productionOf, Among}
-use Rattle.cdf_table.proofs.Tables.{same}
+use Rattle.cdf_unit_table.proofs.Tables.{same}
 
 abbrev pub textOf : Rule → Text
 textOf blank = noText

@@ -10,21 +10,21 @@ use borrow.Author.Tests.{eqb-true, eqb-false, eq-eqb, ne-eqb}
 use lib.Dec.{eqb}
 use lib.ListN.{length, take, drop, length-take}
 use lib.Seq.{take-take}
-use Rattle.cdf_prefix.specs.Layout.{Layout}
-use Rattle.cdf_table.specs.States.{opens, complete}
-use Rattle.cdf_judge.specs.Judge.{judgeOf}
-use Rattle.cdf_units.specs.Units.{End, unfinished, ended, fault, Listing, listingIn}
-use Rattle.cdf_units.specs.Stack.{incomplete, left, close, Step, done, refused, found, entered, withState}
-use Rattle.cdf_units.specs.Stack.{stepIn, step, stepsFrom, steps}
-use Rattle.cdf_units.specs.declared.Unit.{Unit}
-use Rattle.cdf_units.specs.declared.Open.{Open}
-use Rattle.cdf_judge.specs.declared.Judged.{Judged}
-use Rattle.cdf_judge.specs.declared.Judged.the-variants.{Fault, Found}
-use Rattle.cdf_table.proofs.Parts.{Part, left-of}
-use Rattle.cdf_judge.proofs.Placed.{placed}
-use Rattle.cdf_units.proofs.Entering.{unitOf}
-use Rattle.cdf_units.proofs.Agreement.{follows}
-use Rattle.cdf_units.proofs.Stepping.{fresh}
+use Rattle.cdf_unit_prefix.specs.Layout.{Layout}
+use Rattle.cdf_unit_table.specs.States.{opens, complete}
+use Rattle.cdf_unit_judge.specs.Judge.{judgeOf}
+use Rattle.cdf_unit_list.specs.Units.{End, unfinished, ended, fault, Listing, listingIn}
+use Rattle.cdf_unit_list.specs.Stack.{incomplete, left, close, Step, done, refused, found, entered, withState}
+use Rattle.cdf_unit_list.specs.Stack.{stepIn, step, stepsFrom, steps}
+use Rattle.cdf_unit_list.specs.declared.Unit.{Unit}
+use Rattle.cdf_unit_list.specs.declared.Open.{Open}
+use Rattle.cdf_unit_judge.specs.declared.Judged.{Judged}
+use Rattle.cdf_unit_judge.specs.declared.Judged.the-variants.{Fault, Found}
+use Rattle.cdf_unit_table.proofs.Parts.{Part, left-of}
+use Rattle.cdf_unit_judge.proofs.Placed.{placed}
+use Rattle.cdf_unit_list.proofs.Entering.{unitOf}
+use Rattle.cdf_unit_list.proofs.Agreement.{follows}
+use Rattle.cdf_unit_list.proofs.Stepping.{fresh}
 
 -- The moves, by the offset where the part starts in the whole.
 abbrev pub moved : ℕ → Open → Open

@@ -9,10 +9,10 @@ use borrow.Author.Tests.{le-leb, leb-true, eq-eqb, eqb-true}
 use lib.Dec.{leb, eqb}
 use lib.ListN.{length, take, getD, length-append}
 use lib.Seq.{take-at, length-take-le}
-use Rattle.cdf_data.specs.Data.{letter, nameByte, nameRun, nameFront, spelled, nameOf}
-use Rattle.cdf_data.specs.declared.Own.{Own}
-use Rattle.cdf_data.specs.declared.Own.the-variants.{Taken, Broken}
-use Rattle.cdf_table.proofs.Bools.{both, either}
+use Rattle.cdf_unit_data.specs.Data.{letter, nameByte, nameRun, nameFront, spelled, nameOf}
+use Rattle.cdf_unit_data.specs.declared.Own.{Own}
+use Rattle.cdf_unit_data.specs.declared.Own.the-variants.{Taken, Broken}
+use Rattle.cdf_unit_table.proofs.Bools.{both, either}
 use Rattle.cdf_grammar.specs.Published.{Each, Letter, NameByte, Name}
 
 letter-is : (b : ℕ) → (letter b ≡ true) ↔ Letter b

@@ -8,19 +8,19 @@ use native.Mathlib.Omega.{arith}
 use native.Mathlib.Decide.{decLt}
 use lib.Dec.{eqb}
 use lib.ListN.{take, drop, length-take}
-use Rattle.cdf_prefix.specs.Layout.{Layout}
-use Rattle.cdf_table.specs.States.{opens, complete}
-use Rattle.cdf_judge.specs.Judge.{judgeOf}
-use Rattle.cdf_units.specs.Units.{after, End, ended, Listing}
-use Rattle.cdf_units.specs.Stack.{Closing, incomplete, left, close, Step, done, refused, found, opened, entered, withState}
-use Rattle.cdf_units.specs.Stack.{stepIn, step, stepsFrom}
-use Rattle.cdf_units.specs.declared.Unit.{Unit}
-use Rattle.cdf_units.specs.declared.Open.{Open}
-use Rattle.cdf_judge.specs.declared.Judged.{Judged}
-use Rattle.cdf_judge.specs.declared.Judged.the-variants.{Fault, Found}
-use Rattle.cdf_judge.proofs.Placed.{placed}
-use Rattle.cdf_units.proofs.Entering.{after-between, unitOf}
-use Rattle.cdf_units.proofs.Stepping.{fresh, step-inside, step-closes, refused-never, spent-never}
+use Rattle.cdf_unit_prefix.specs.Layout.{Layout}
+use Rattle.cdf_unit_table.specs.States.{opens, complete}
+use Rattle.cdf_unit_judge.specs.Judge.{judgeOf}
+use Rattle.cdf_unit_list.specs.Units.{after, End, ended, Listing}
+use Rattle.cdf_unit_list.specs.Stack.{Closing, incomplete, left, close, Step, done, refused, found, opened, entered, withState}
+use Rattle.cdf_unit_list.specs.Stack.{stepIn, step, stepsFrom}
+use Rattle.cdf_unit_list.specs.declared.Unit.{Unit}
+use Rattle.cdf_unit_list.specs.declared.Open.{Open}
+use Rattle.cdf_unit_judge.specs.declared.Judged.{Judged}
+use Rattle.cdf_unit_judge.specs.declared.Judged.the-variants.{Fault, Found}
+use Rattle.cdf_unit_judge.proofs.Placed.{placed}
+use Rattle.cdf_unit_list.proofs.Entering.{after-between, unitOf}
+use Rattle.cdf_unit_list.proofs.Stepping.{fresh, step-inside, step-closes, refused-never, spent-never}
 
 -- What closing leaves of a stack with others around it, from what it leaves of the stack alone.
 abbrev pub closeOnward : List Open → ℕ → Closing → Closing

@@ -6,7 +6,7 @@ use native.Mathlib.Omega.{arith}
 use native.Mathlib.Nat.{pow-suc}
 use lib.ListN.{length, take, drop, getD, length-append, length-drop}
 use lib.Seq.{take-suc, getD-drop, getD-append-add, getD-at}
-use Rattle.cdf_prefix.specs.Layout.{numberAt}
+use Rattle.cdf_unit_prefix.specs.Layout.{numberAt}
 use Rattle.cdf_grammar.specs.Encoding.{bytesOf, Bytes}
 use Rattle.cdf_grammar.proofs.Parts.{byte-at}
 

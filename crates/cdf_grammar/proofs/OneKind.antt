@@ -4,7 +4,7 @@ use mathlib.Core.Path.{_≡_, refl, ap}
 use mathlib.Core.List.{List, [], _∷_, _++_, append-nil}
 use mathlib.Core.Logic.{inl, inr}
 use native.Mathlib.Omega.{arith}
-use Rattle.cdf_table.specs.Ids.{template, temporaryKey, templateKey, field, entityKey}
+use Rattle.cdf_unit_table.specs.Ids.{template, temporaryKey, templateKey, field, entityKey}
 use Rattle.cdf_grammar.specs.Content.{one, Spells, Pieces, end, piece}
 use Rattle.cdf_grammar.specs.Trees.{Forest, none, tree, ids}
 use Rattle.cdf_grammar.specs.Published.{Each, Among, tmplKeyList, productionOf, Conforms}

@@ -5,7 +5,7 @@ use Prim.Native.Nat.{ℕ, zero, suc, _+_, _-_, _<_}
 use native.Mathlib.Omega.{arith}
 use lib.ListN.{take, drop, getD}
 use lib.Seq.{take-nil, drop-drop}
-use Rattle.cdf_table.proofs.Parts.{drop-take}
+use Rattle.cdf_unit_table.proofs.Parts.{drop-take}
 use Rattle.cdf_grammar.specs.Encoding.{Bytes}
 
 pub byte-at : (s : List ℕ) → Bytes s → (i : ℕ) → getD s i 0 < 256

@@ -3,7 +3,7 @@ use mathlib.Core.Path.{refl}
 use mathlib.Core.List.{[], _∷_}
 use mathlib.Core.Logic.{inl, inr}
 use native.Mathlib.Omega.{arith}
-use Rattle.cdf_table.specs.Ids.{template, temporaryKey, field}
+use Rattle.cdf_unit_table.specs.Ids.{template, temporaryKey, field}
 use Rattle.cdf_grammar.specs.Content.{end, piece}
 use Rattle.cdf_grammar.specs.Trees.{ids}
 use Rattle.cdf_grammar.specs.Published.{productionOf, Name, InGrammar}

@@ -8,8 +8,8 @@ use borrow.Author.Tests.{eqb-true, eq-eqb}
 use lib.Dec.{eqb}
 use lib.ListN.{length, take, drop, getD, length-append}
 use lib.Seq.{drop-cons, drop-drop, take-add, getD-at}
-use Rattle.cdf_prefix.specs.Layout.{Layout, prefixOf, marked, lengthAt, actionAt, idAt}
-use Rattle.cdf_table.proofs.Bools.{both}
+use Rattle.cdf_unit_prefix.specs.Layout.{Layout, prefixOf, marked, lengthAt, actionAt, idAt}
+use Rattle.cdf_unit_table.proofs.Bools.{both}
 use Rattle.cdf_grammar.specs.Encoding.{bytesOf, prefixBytes, Bytes}
 use Rattle.cdf_grammar.proofs.Numbers.{length-bytes, number-read, number-written}
 

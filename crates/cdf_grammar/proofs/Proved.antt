@@ -5,14 +5,14 @@ use mathlib.Core.Bool.{true}
 use mathlib.Core.List.{List, [], _∷_}
 use native.Mathlib.Omega.{arith}
 use lib.ListN.{length}
-use Rattle.cdf_prefix.specs.Layout.{Layout, layoutOf}
-use Rattle.cdf_table.specs.States.{rootKind}
-use Rattle.cdf_units.specs.Units.{End, unfinished, ended, fault, Listing, listing}
-use Rattle.cdf_units.specs.Check.{Answer, answerOf, checkOf}
-use Rattle.cdf_units.specs.Samples.{k2}
-use Rattle.cdf_prefix.specs.declared.Edition.{Edition}
-use Rattle.cdf_prefix.specs.declared.Edition.the-variants.{First, Second}
-use Rattle.cdf_units.proofs.Numbered.{numbered}
+use Rattle.cdf_unit_prefix.specs.Layout.{Layout, layoutOf}
+use Rattle.cdf_unit_table.specs.States.{rootKind}
+use Rattle.cdf_unit_list.specs.Units.{End, unfinished, ended, fault, Listing, listing}
+use Rattle.cdf_unit_list.specs.Check.{Answer, answerOf, checkOf}
+use Rattle.cdf_unit_list.specs.Samples.{k2}
+use Rattle.cdf_unit_prefix.specs.declared.Edition.{Edition}
+use Rattle.cdf_unit_prefix.specs.declared.Edition.the-variants.{First, Second}
+use Rattle.cdf_unit_list.proofs.Numbered.{numbered}
 use Rattle.cdf_grammar.specs.Trees.{Forest, ids, units}
 use Rattle.cdf_grammar.specs.Encoding.{Bytes, Stream, encode, list, says}
 use Rattle.cdf_grammar.specs.Example.{person}

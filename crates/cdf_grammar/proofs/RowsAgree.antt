@@ -8,14 +8,14 @@ use mathlib.Core.Option.{Option, none, some}
 use native.Mathlib.Omega.{arith}
 use lib.Dec.{T, eqb, ltb, ltb→lt}
 use lib.ListN.{getD}
-use Rattle.cdf_table.specs.Ids.{stream, call, parameter, erGroup, template, temporaryKey, templateKey, field, relation, orderedRelation}
-use Rattle.cdf_table.specs.Ids.{entityKey, fileGroup, line, idsEnd}
-use Rattle.cdf_table.specs.States.{parents, statesEnd, admit, opens, nothing, complete}
-use Rattle.cdf_table.proofs.Rows.{admit-below, admit-unknown, from-parents, none-opens}
+use Rattle.cdf_unit_table.specs.Ids.{stream, call, parameter, erGroup, template, temporaryKey, templateKey, field, relation, orderedRelation}
+use Rattle.cdf_unit_table.specs.Ids.{entityKey, fileGroup, line, idsEnd}
+use Rattle.cdf_unit_table.specs.States.{parents, statesEnd, admit, opens, nothing, complete}
+use Rattle.cdf_unit_table.proofs.Rows.{admit-below, admit-unknown, from-parents, none-opens}
 use Rattle.cdf_grammar.specs.Content.{Content, empty, Spells}
 use Rattle.cdf_grammar.specs.Published.{productionOf}
 use Rattle.cdf_grammar.proofs.Fits.{through}
-use Rattle.cdf_table.proofs.Tables.{upTo, same-below, same}
+use Rattle.cdf_unit_table.proofs.Tables.{upTo, same-below, same}
 use Rattle.cdf_grammar.proofs.Spelling.{Allows, leftAfter, mayEnd, within, allows-none, allows-first, after-beyond}
 use Rattle.cdf_grammar.proofs.KindsAgree.{agreed}
 

@@ -8,7 +8,7 @@ use mathlib.Core.Option.{Option, none, some}
 use borrow.Author.Tests.{eqb-true, eqb-false, ne-eqb}
 use native.Mathlib.Omega.{arith}
 use lib.Dec.{T, eqb, ltb, ltb→lt}
-use Rattle.cdf_table.proofs.Tests.{and-left, and-right}
+use Rattle.cdf_unit_table.proofs.Tests.{and-left, and-right}
 use Rattle.cdf_grammar.specs.Content.{Content, empty, one, both, either, many, Pieces, end, piece, Spells}
 
 -- It spells the empty sequence.

@@ -8,11 +8,11 @@ use borrow.Author.Tests.{le-leb, leb-true, eq-eqb, eqb-true}
 use lib.Dec.{leb, eqb}
 use lib.ListN.{length, take, drop, length-append, length-drop, take-append-drop}
 use lib.Seq.{length-take-le, take-length}
-use Rattle.cdf_table.specs.Ids.{Rule, blank, name, nameValue, value, numbers, kindOf, known}
-use Rattle.cdf_table.specs.States.{opens}
-use Rattle.cdf_data.specs.Data.{nameOf, valueAfter, dataBy, ownData}
-use Rattle.cdf_data.specs.declared.Own.{Own}
-use Rattle.cdf_data.specs.declared.Own.the-variants.{Taken, Broken}
+use Rattle.cdf_unit_table.specs.Ids.{Rule, blank, name, nameValue, value, numbers, kindOf, known}
+use Rattle.cdf_unit_table.specs.States.{opens}
+use Rattle.cdf_unit_data.specs.Data.{nameOf, valueAfter, dataBy, ownData}
+use Rattle.cdf_unit_data.specs.declared.Own.{Own}
+use Rattle.cdf_unit_data.specs.declared.Own.the-variants.{Taken, Broken}
 use Rattle.cdf_grammar.specs.Published.{TextIs, productionOf}
 use Rattle.cdf_grammar.specs.Encoding.{ownLength}
 use Rattle.cdf_grammar.proofs.Fits.{ownOf}

@@ -6,8 +6,8 @@ use mathlib.Core.List.{List, _++_, append-assoc}
 use native.Mathlib.Omega.{arith}
 use lib.ListN.{length, length-append}
 use lib.Seq.{take-at, drop-at}
-use Rattle.cdf_prefix.specs.Layout.{Layout, prefixOf}
-use Rattle.cdf_table.specs.States.{opens}
+use Rattle.cdf_unit_prefix.specs.Layout.{Layout, prefixOf}
+use Rattle.cdf_unit_table.specs.States.{opens}
 use Rattle.cdf_grammar.specs.Trees.{Forest, none, tree}
 use Rattle.cdf_grammar.specs.Encoding.{prefixBytes, unitBytes, encode}
 use Rattle.cdf_grammar.proofs.Fits.{ownOf, Passes, Fits}

@@ -6,11 +6,11 @@ use Prim.Native.Nat.{ℕ, _+_, _-_}
 use native.Mathlib.Omega.{arith}
 use lib.ListN.{length, take, drop, length-append, length-take, length-drop}
 use lib.Seq.{take-add}
-use Rattle.cdf_prefix.specs.Layout.{Layout, prefixOf}
-use Rattle.cdf_table.specs.States.{opens, nothing, complete}
-use Rattle.cdf_data.specs.Data.{ownData}
-use Rattle.cdf_data.specs.declared.Own.the-variants.{Taken}
-use Rattle.cdf_judge.proofs.Placed.{Placed}
+use Rattle.cdf_unit_prefix.specs.Layout.{Layout, prefixOf}
+use Rattle.cdf_unit_table.specs.States.{opens, nothing, complete}
+use Rattle.cdf_unit_data.specs.Data.{ownData}
+use Rattle.cdf_unit_data.specs.declared.Own.the-variants.{Taken}
+use Rattle.cdf_unit_judge.proofs.Placed.{Placed}
 use Rattle.cdf_grammar.specs.Trees.{Forest, none, ids}
 use Rattle.cdf_grammar.specs.Encoding.{prefixBytes, unitBytes, encode, Bytes}
 use Rattle.cdf_grammar.proofs.Fits.{through, Passes, Fits}

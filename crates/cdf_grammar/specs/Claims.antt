@@ -6,13 +6,13 @@ use mathlib.Core.Bool.{cond, _||_}
 use mathlib.Core.List.{List, [], _∷_, map}
 use mathlib.Core.Logic.{_↔_, _⊎_}
 use lib.Dec.{eqb}
-use Rattle.cdf_table.specs.Ids.{template, temporaryKey, templateKey, entityKey}
-use Rattle.cdf_prefix.specs.Layout.{Layout, layoutOf}
-use Rattle.cdf_units.specs.Units.{listing}
-use Rattle.cdf_units.specs.Check.{checkOf}
-use Rattle.cdf_units.specs.Samples.{k2}
-use Rattle.cdf_prefix.specs.declared.Edition.{Edition}
-use Rattle.cdf_prefix.specs.declared.Edition.the-variants.{First}
+use Rattle.cdf_unit_table.specs.Ids.{template, temporaryKey, templateKey, entityKey}
+use Rattle.cdf_unit_prefix.specs.Layout.{Layout, layoutOf}
+use Rattle.cdf_unit_list.specs.Units.{listing}
+use Rattle.cdf_unit_list.specs.Check.{checkOf}
+use Rattle.cdf_unit_list.specs.Samples.{k2}
+use Rattle.cdf_unit_prefix.specs.declared.Edition.{Edition}
+use Rattle.cdf_unit_prefix.specs.declared.Edition.the-variants.{First}
 use Rattle.cdf_grammar.specs.Trees.{Forest, none, tree, ids, units, depth}
 use Rattle.cdf_grammar.specs.Published.{Each, Among}
 use Rattle.cdf_grammar.specs.Encoding.{Bytes, Stream, list, Item, itemOf}

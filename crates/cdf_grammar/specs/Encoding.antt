@@ -3,9 +3,9 @@ use Prim.Native.Nat.{ℕ, zero, suc, _+_, _-_, _/_, _%_, _≤_, _<_}
 use mathlib.Core.Path.{_≡_}
 use mathlib.Core.List.{List, [], _∷_, _++_}
 use lib.ListN.{length, take, drop, getD}
-use Rattle.cdf_prefix.specs.Layout.{Layout, prefixOf}
-use Rattle.cdf_units.specs.Units.{after}
-use Rattle.cdf_units.specs.declared.Unit.{Unit}
+use Rattle.cdf_unit_prefix.specs.Layout.{Layout, prefixOf}
+use Rattle.cdf_unit_list.specs.Units.{after}
+use Rattle.cdf_unit_list.specs.declared.Unit.{Unit}
 use Rattle.cdf_grammar.specs.Trees.{Forest, none, tree}
 use Rattle.cdf_grammar.specs.Published.{Text, noText, nameText, nameAndValue, valueText, numberText, Each, productionOf, InGrammar}
 

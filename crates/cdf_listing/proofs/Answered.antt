@@ -4,14 +4,14 @@ use mathlib.Core.Path.{_≡_, refl}
 use mathlib.Core.List.{List, _++_}
 use native.Mathlib.Omega.{arith}
 use lib.ListN.{length}
-use Rattle.cdf_prefix.specs.Layout.{Layout, layoutOf}
-use Rattle.cdf_prefix.specs.declared.Edition.the-variants.{First}
-use Rattle.cdf_units.specs.Units.{End, unfinished, ended, fault, listing}
-use Rattle.cdf_units.proofs.Proved.{proved}
+use Rattle.cdf_unit_prefix.specs.Layout.{Layout, layoutOf}
+use Rattle.cdf_unit_prefix.specs.declared.Edition.the-variants.{First}
+use Rattle.cdf_unit_list.specs.Units.{End, unfinished, ended, fault, listing}
+use Rattle.cdf_unit_list.proofs.Proved.{proved}
 use Rattle.cdf_check.specs.Answers.{checkedBy, checkedOf}
 use Rattle.cdf_check.specs.declared.Checked.the-variants.{Accepted, Refused}
-use Rattle.cdf_text.specs.Text.{listedLines, okLine, refusedLine, listingText}
-use Rattle.cdf_text.proofs.Short.{ok-short, refused-short, listed-short, ok-text, refused-text}
+use Rattle.cdf_listing_spec.specs.Text.{listedLines, okLine, refusedLine, listingText}
+use Rattle.cdf_listing_spec.proofs.Short.{ok-short, refused-short, listed-short, ok-text, refused-text}
 use Rattle.cdf_listing.specs.Put.{Room, Put}
 
 module _ (l : Layout) (s : List ℕ) where

@@ -4,17 +4,17 @@ use mathlib.Core.Path.{_≡_, ap}
 use mathlib.Core.List.{List, [], _++_}
 use native.Mathlib.Omega.{arith}
 use lib.ListN.{length, length-append}
-use Rattle.cdf_prefix.specs.Layout.{layoutOf}
-use Rattle.cdf_prefix.specs.declared.Edition.the-variants.{First}
-use Rattle.cdf_place.specs.Calls.{firstOf, nextOf}
-use Rattle.cdf_runs.proofs.Further.{first-later, next-later, ahead, less}
+use Rattle.cdf_unit_prefix.specs.Layout.{layoutOf}
+use Rattle.cdf_unit_prefix.specs.declared.Edition.the-variants.{First}
+use Rattle.cdf_reader_spec.specs.Calls.{firstOf, nextOf}
+use Rattle.cdf_reader_runs.proofs.Further.{first-later, next-later, ahead, less}
 use Rattle.cdf_reader.specs.View.{view, replyOf}
 use Rattle.cdf_reader.specs.declared.Answer.{Answer}
 use Rattle.cdf_reader.proofs.Counted.{length-open}
-use Rattle.cdf_text.specs.Text.{lineOf, listedLines}
-use Rattle.cdf_text.proofs.Deep.{depthIn}
-use Rattle.cdf_text.proofs.Short.{listed-short}
-use Rattle.cdf_text.proofs.Going.{Going, begun, lineIn, Turn, turn, over}
+use Rattle.cdf_listing_spec.specs.Text.{lineOf, listedLines}
+use Rattle.cdf_listing_spec.proofs.Deep.{depthIn}
+use Rattle.cdf_listing_spec.proofs.Short.{listed-short}
+use Rattle.cdf_listing_spec.proofs.Going.{Going, begun, lineIn, Turn, turn, over}
 use Rattle.cdf_listing.specs.Put.{Room, Put}
 use Rattle.cdf_listing.proofs.Putting.{nothing-put, put-both}
 

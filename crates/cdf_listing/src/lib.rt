@@ -3,17 +3,17 @@ ghost use mathlib.Core.Path.{_≡_};
 ghost use mathlib.Core.Bool.{cond};
 ghost use mathlib.Core.List.{[], _∷_};
 ghost use Prim.Native.Nat.{suc, _≤_, _<_};
-ghost use Rattle.cdf_prefix.specs.Layout.{layoutOf};
-ghost use Rattle.cdf_prefix.specs.declared.Edition.the-variants.{First};
-ghost use Rattle.cdf_text.specs.Decimal.{digit, decimal};
-ghost use Rattle.cdf_text.specs.Text.{number, columns, lineOf, listedLines, okLine, refusedLine, listingText};
+ghost use Rattle.cdf_unit_prefix.specs.Layout.{layoutOf};
+ghost use Rattle.cdf_unit_prefix.specs.declared.Edition.the-variants.{First};
+ghost use Rattle.cdf_listing_spec.specs.Decimal.{digit, decimal};
+ghost use Rattle.cdf_listing_spec.specs.Text.{number, columns, lineOf, listedLines, okLine, refusedLine, listingText};
 ghost use Rattle.cdf_listing.specs.Put.{Room, Put};
 ghost use Rattle.cdf_listing.specs.Written.{writtenOf, bufferOf};
 use cdf_check::Checked;
 use cdf_check::check;
 use cdf_reader::Place;
 use cdf_reader::first;
-use cdf_units::Unit;
+use cdf_unit_list::Unit;
 
 // 0 and how many bytes were written, or 12 and none.
 pub struct Written {

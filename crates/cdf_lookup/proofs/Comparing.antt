@@ -9,8 +9,8 @@ use borrow.Author.Tests.{eq-eqb, ne-eqb}
 use lib.Dec.{eqb}
 use lib.ListN.{length, drop, getD, drop-of-length-le}
 use lib.Seq.{drop-cons}
-use Rattle.cdf_find.specs.Find.{sameBytes}
-use Rattle.cdf_find.proofs.Telling.{bytes-same}
+use Rattle.cdf_lookup_spec.specs.Find.{sameBytes}
+use Rattle.cdf_lookup_spec.proofs.Telling.{bytes-same}
 
 -- Of two lengths they are not the same.
 pub unequal : (a b : List ℕ) → (length a ≡ length b → ⊥) → sameBytes a b ≡ false

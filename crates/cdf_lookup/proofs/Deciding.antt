@@ -7,17 +7,17 @@ use native.Mathlib.Omega.{arith}
 use borrow.Author.Tests.{eq-eqb, ne-eqb}
 use lib.Dec.{eqb}
 use lib.ListN.{length}
-use Rattle.cdf_prefix.specs.Layout.{Layout, layoutOf}
-use Rattle.cdf_prefix.specs.declared.Edition.{Edition}
-use Rattle.cdf_units.specs.Units.{listing}
-use Rattle.cdf_units.specs.Check.{checkOf}
+use Rattle.cdf_unit_prefix.specs.Layout.{Layout, layoutOf}
+use Rattle.cdf_unit_prefix.specs.declared.Edition.{Edition}
+use Rattle.cdf_unit_list.specs.Units.{listing}
+use Rattle.cdf_unit_list.specs.Check.{checkOf}
 use Rattle.cdf_grammar.specs.Trees.{Forest}
 use Rattle.cdf_grammar.specs.Encoding.{Stream}
-use Rattle.cdf_find.specs.Find.{Query, valueIn, refusal, found, orElse, isGroup, lookupOf}
-use Rattle.cdf_find.specs.Search.{searchOf}
-use Rattle.cdf_find.specs.Chosen.{streamOf}
-use Rattle.cdf_find.specs.declared.Lookup.{Lookup}
-use Rattle.cdf_find.proofs.Streams.{search-finds}
+use Rattle.cdf_lookup_spec.specs.Find.{Query, valueIn, refusal, found, orElse, isGroup, lookupOf}
+use Rattle.cdf_lookup_spec.specs.Search.{searchOf}
+use Rattle.cdf_lookup_spec.specs.Chosen.{streamOf}
+use Rattle.cdf_lookup_spec.specs.declared.Lookup.{Lookup}
+use Rattle.cdf_lookup_spec.proofs.Streams.{search-finds}
 use Rattle.cdf_lookup.specs.Parts.{rootNumber}
 
 -- Two roots asked one after the other, or together.

@@ -6,8 +6,8 @@ use native.Mathlib.Omega.{arith}
 use borrow.Author.Tests.{eq-eqb, ne-eqb}
 use lib.Dec.{eqb}
 use lib.ListN.{length}
-use Rattle.cdf_table.proofs.Bools.{of-cond}
-use Rattle.cdf_find.specs.Chosen.{streamOf}
+use Rattle.cdf_unit_table.proofs.Bools.{of-cond}
+use Rattle.cdf_lookup_spec.specs.Chosen.{streamOf}
 
 module _ (which : ℕ) (s t : List ℕ) (n : ℕ) (h : n ≤ length (streamOf which s t)) where
   pub in-second : which ≡ 2 → n ≤ length t

@@ -6,19 +6,19 @@ use mathlib.Core.List.{List, [], _∷_}
 use native.Mathlib.Omega.{arith}
 use lib.Dec.{eqb}
 use lib.ListN.{length}
-use Rattle.cdf_table.specs.Ids.{erGroup}
-use Rattle.cdf_table.proofs.Bools.{of-cond}
-use Rattle.cdf_prefix.specs.Layout.{Layout}
-use Rattle.cdf_units.specs.Units.{End, unfinished, ended, fault, listing}
-use Rattle.cdf_units.specs.Check.{checkOf}
-use Rattle.cdf_units.specs.declared.Unit.{Unit}
-use Rattle.cdf_units.proofs.Proved.{proved}
+use Rattle.cdf_unit_table.specs.Ids.{erGroup}
+use Rattle.cdf_unit_table.proofs.Bools.{of-cond}
+use Rattle.cdf_unit_prefix.specs.Layout.{Layout}
+use Rattle.cdf_unit_list.specs.Units.{End, unfinished, ended, fault, listing}
+use Rattle.cdf_unit_list.specs.Check.{checkOf}
+use Rattle.cdf_unit_list.specs.declared.Unit.{Unit}
+use Rattle.cdf_unit_list.proofs.Proved.{proved}
 use Rattle.cdf_check.specs.Answers.{checkedBy, checkedOf}
 use Rattle.cdf_check.specs.declared.Checked.the-variants.{Refused}
-use Rattle.cdf_place.specs.Calls.{Reply, firstOf}
-use Rattle.cdf_runs.specs.Runs.{Outcome, outcome, afterwards, due}
-use Rattle.cdf_runs.proofs.Readings.{begins}
-use Rattle.cdf_find.specs.Find.{isGroup}
+use Rattle.cdf_reader_spec.specs.Calls.{Reply, firstOf}
+use Rattle.cdf_reader_runs.specs.Runs.{Outcome, outcome, afterwards, due}
+use Rattle.cdf_reader_runs.proofs.Readings.{begins}
+use Rattle.cdf_lookup_spec.specs.Find.{isGroup}
 
 module _ (l : Layout) (s : List ℕ) where
   -- A refusal's number is not 0.

@@ -6,18 +6,18 @@ use mathlib.Core.List.{List}
 use native.Mathlib.Omega.{arith}
 use lib.Dec.{ltb}
 use lib.ListN.{length}
-use Rattle.cdf_table.specs.Ids.{template, field}
-use Rattle.cdf_table.proofs.Bools.{of-cond}
-use Rattle.cdf_prefix.specs.Layout.{Layout}
-use Rattle.cdf_units.specs.declared.Unit.{Unit}
-use Rattle.cdf_place.specs.Calls.{Reply, nextOf}
-use Rattle.cdf_runs.proofs.Folding.{Going, Turn, over}
-use Rattle.cdf_find.specs.Find.{Query, named, isThatKey}
-use Rattle.cdf_find.specs.Search.{advanceOf, outcomeOf, isOver, searchOf}
-use Rattle.cdf_find.specs.declared.Search.{Search}
-use Rattle.cdf_find.specs.declared.Search.the-variants.{Seeking, Named, Inside, Over}
-use Rattle.cdf_find.specs.declared.Value.the-variants.{At, Missing}
-use Rattle.cdf_find.proofs.Searching.{over-stays}
+use Rattle.cdf_unit_table.specs.Ids.{template, field}
+use Rattle.cdf_unit_table.proofs.Bools.{of-cond}
+use Rattle.cdf_unit_prefix.specs.Layout.{Layout}
+use Rattle.cdf_unit_list.specs.declared.Unit.{Unit}
+use Rattle.cdf_reader_spec.specs.Calls.{Reply, nextOf}
+use Rattle.cdf_reader_runs.proofs.Folding.{Going, Turn, over}
+use Rattle.cdf_lookup_spec.specs.Find.{Query, named, isThatKey}
+use Rattle.cdf_lookup_spec.specs.Search.{advanceOf, outcomeOf, isOver, searchOf}
+use Rattle.cdf_lookup_spec.specs.declared.Search.{Search}
+use Rattle.cdf_lookup_spec.specs.declared.Search.the-variants.{Seeking, Named, Inside, Over}
+use Rattle.cdf_lookup_spec.specs.declared.Value.the-variants.{At, Missing}
+use Rattle.cdf_lookup_spec.proofs.Searching.{over-stays}
 use Rattle.cdf_lookup.specs.Parts.{Lies, Placed}
 
 pub nowhere : (n : ℕ) → Placed n Missing

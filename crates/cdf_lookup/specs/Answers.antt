@@ -4,11 +4,11 @@ use mathlib.Core.Path.{_≡_}
 use mathlib.Core.List.{List}
 use denote.Ref.{RefT, ptr, now}
 use lib.ListN.{take, drop}
-use Rattle.cdf_prefix.specs.Layout.{layoutOf}
-use Rattle.cdf_prefix.specs.declared.Edition.the-variants.{First}
-use Rattle.cdf_find.specs.Find.{query, lookupOf}
-use Rattle.cdf_find.specs.Chosen.{streamOf}
-use Rattle.cdf_find.specs.declared.Lookup.{Lookup}
+use Rattle.cdf_unit_prefix.specs.Layout.{layoutOf}
+use Rattle.cdf_unit_prefix.specs.declared.Edition.the-variants.{First}
+use Rattle.cdf_lookup_spec.specs.Find.{query, lookupOf}
+use Rattle.cdf_lookup_spec.specs.Chosen.{streamOf}
+use Rattle.cdf_lookup_spec.specs.declared.Lookup.{Lookup}
 
 -- A lent slice: where it stands, and its bytes.
 abbrev pub Lent : Type 0

@@ -3,12 +3,12 @@ use Prim.Native.Nat.{ℕ, _+_, _≤_}
 use mathlib.Core.Path.{_≡_}
 use mathlib.Core.Bool.{cond, _&&_}
 use mathlib.Core.List.{List}
-use Rattle.cdf_prefix.specs.Layout.{Layout, prefixOf}
-use Rattle.cdf_units.specs.Units.{listing}
-use Rattle.cdf_units.specs.declared.Unit.{Unit}
-use Rattle.cdf_find.specs.Find.{isGroup}
-use Rattle.cdf_find.specs.declared.Value.{Value}
-use Rattle.cdf_find.specs.declared.Value.the-variants.{At}
+use Rattle.cdf_unit_prefix.specs.Layout.{Layout, prefixOf}
+use Rattle.cdf_unit_list.specs.Units.{listing}
+use Rattle.cdf_unit_list.specs.declared.Unit.{Unit}
+use Rattle.cdf_lookup_spec.specs.Find.{isGroup}
+use Rattle.cdf_lookup_spec.specs.declared.Value.{Value}
+use Rattle.cdf_lookup_spec.specs.declared.Value.the-variants.{At}
 
 -- A unit's prefix, own data and end lie in n bytes, in this order.
 pub record Lies (l : Layout) (n : ℕ) (u : Unit) : Type 0 where

@@ -7,8 +7,8 @@ use cdf_check::check;
 use cdf_lookup::is_group;
 use cdf_lookup::lookup;
 use cdf_lookup::lookup_place;
-use cdf_table::TEMPLATE_KEY;
-use cdf_table::TEMPORARY_KEY;
+use cdf_unit_table::TEMPLATE_KEY;
+use cdf_unit_table::TEMPORARY_KEY;
 use libc::STDOUT_FILENO;
 
 fn say(text: &[u8]) {

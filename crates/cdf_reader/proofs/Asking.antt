@@ -5,13 +5,13 @@ use mathlib.Core.Bool.{Bool, true, false, not, cond, _||_, true≢false}
 use mathlib.Core.List.{List}
 use borrow.Author.Tests.{eq-eqb, ne-eqb}
 use lib.ListN.{length}
-use Rattle.cdf_prefix.specs.Layout.{Layout}
-use Rattle.cdf_units.specs.Stack.{step}
-use Rattle.cdf_place.specs.Place.{ReaderPlace, isEmpty, fits}
-use Rattle.cdf_place.specs.Calls.{Reply, refuse, stepped, passed, firstOf, nextOf, skipOf, takeOf, previousOf, callOf}
-use Rattle.cdf_place.specs.declared.Call.{Call}
-use Rattle.cdf_place.specs.declared.Call.the-variants.{Start, Next, Skip, GetStream, Previous}
-use Rattle.cdf_place.proofs.Replying.{next-tests, previous-tests, passing-tests, skip-is, take-is}
+use Rattle.cdf_unit_prefix.specs.Layout.{Layout}
+use Rattle.cdf_unit_list.specs.Stack.{step}
+use Rattle.cdf_reader_spec.specs.Place.{ReaderPlace, isEmpty, fits}
+use Rattle.cdf_reader_spec.specs.Calls.{Reply, refuse, stepped, passed, firstOf, nextOf, skipOf, takeOf, previousOf, callOf}
+use Rattle.cdf_reader_spec.specs.declared.Call.{Call}
+use Rattle.cdf_reader_spec.specs.declared.Call.the-variants.{Start, Next, Skip, GetStream, Previous}
+use Rattle.cdf_reader_spec.proofs.Replying.{next-tests, previous-tests, passing-tests, skip-is, take-is}
 use Rattle.cdf_reader.specs.View.{view, replyOf, noPlace, refusal}
 use Rattle.cdf_reader.specs.Uses.{isStart, hasUse, placeKept}
 use Rattle.cdf_reader.specs.declared.Place.{Place}

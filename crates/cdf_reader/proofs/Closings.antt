@@ -7,11 +7,11 @@ use native.Mathlib.Omega.{arith}
 use borrow.Author.Tests.{eq-eqb, eqb-true, ne-eqb}
 use lib.Dec.{eqb}
 use lib.ListN.{length}
-use Rattle.cdf_table.specs.States.{complete}
-use Rattle.cdf_units.specs.Stack.{incomplete, left, close}
-use Rattle.cdf_units.specs.declared.Open.{Open}
-use Rattle.cdf_place.specs.Closing.{unclosed}
-use Rattle.cdf_place.specs.Slots.{slot, around, openUnits}
+use Rattle.cdf_unit_table.specs.States.{complete}
+use Rattle.cdf_unit_list.specs.Stack.{incomplete, left, close}
+use Rattle.cdf_unit_list.specs.declared.Open.{Open}
+use Rattle.cdf_reader_spec.specs.Closing.{unclosed}
+use Rattle.cdf_reader_spec.specs.Slots.{slot, around, openUnits}
 use Rattle.cdf_reader.specs.Left.{outside, Closed}
 use Rattle.cdf_reader.proofs.Counted.{length-open}
 

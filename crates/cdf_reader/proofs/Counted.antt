@@ -2,8 +2,8 @@
 use Prim.Native.Nat.{ℕ, zero, suc}
 use mathlib.Core.Path.{_≡_, refl, ap}
 use lib.ListN.{length}
-use Rattle.cdf_units.specs.declared.Open.{Open}
-use Rattle.cdf_place.specs.Slots.{around, openUnits}
+use Rattle.cdf_unit_list.specs.declared.Open.{Open}
+use Rattle.cdf_reader_spec.specs.Slots.{around, openUnits}
 
 length-around : (o1 o2 o3 : Open) (k : ℕ) → length (around o1 o2 o3 k) ≡ k
 unfolding around

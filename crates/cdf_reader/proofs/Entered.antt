@@ -3,16 +3,16 @@ use Prim.Native.Nat.{ℕ}
 use mathlib.Core.Path.{_≡_}
 use mathlib.Core.Bool.{true, false}
 use mathlib.Core.List.{_∷_}
-use Rattle.cdf_table.specs.States.{nothing}
-use Rattle.cdf_table.proofs.Rows.{opens-by, leaf-by}
-use Rattle.cdf_units.specs.Units.{after}
-use Rattle.cdf_units.specs.Stack.{found, opened}
-use Rattle.cdf_units.specs.declared.Unit.{Unit}
-use Rattle.cdf_units.specs.declared.Open.{Open}
-use Rattle.cdf_units.proofs.Stepping.{opened-parent, opened-leaf}
-use Rattle.cdf_place.specs.Place.{ReaderPlace}
-use Rattle.cdf_place.specs.Calls.{Reply, stepped}
-use Rattle.cdf_place.specs.Slots.{openUnits, placeOf}
+use Rattle.cdf_unit_table.specs.States.{nothing}
+use Rattle.cdf_unit_table.proofs.Rows.{opens-by, leaf-by}
+use Rattle.cdf_unit_list.specs.Units.{after}
+use Rattle.cdf_unit_list.specs.Stack.{found, opened}
+use Rattle.cdf_unit_list.specs.declared.Unit.{Unit}
+use Rattle.cdf_unit_list.specs.declared.Open.{Open}
+use Rattle.cdf_unit_list.proofs.Stepping.{opened-parent, opened-leaf}
+use Rattle.cdf_reader_spec.specs.Place.{ReaderPlace}
+use Rattle.cdf_reader_spec.specs.Calls.{Reply, stepped}
+use Rattle.cdf_reader_spec.specs.Slots.{openUnits, placeOf}
 
 abbrev hands : Unit → ReaderPlace → Reply
 hands unit place = record { number = 0; offset = 0; unit = unit; place = place }

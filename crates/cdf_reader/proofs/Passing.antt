@@ -7,15 +7,15 @@ use native.Mathlib.Omega.{arith}
 use borrow.Author.Tests.{eq-eqb, ne-eqb}
 use lib.Dec.{eqb}
 use lib.ListN.{length}
-use Rattle.cdf_table.specs.States.{nothing, skipped, opens}
-use Rattle.cdf_prefix.specs.Layout.{Layout}
-use Rattle.cdf_units.specs.Stack.{withState}
-use Rattle.cdf_units.specs.declared.Open.{Open}
-use Rattle.cdf_place.specs.Place.{ReaderPlace, fits}
-use Rattle.cdf_place.specs.Calls.{refuse, untouched, skippedTop, passed, passing, isGroup, takeOf, partOf}
-use Rattle.cdf_place.proofs.Fitting.{fitting}
-use Rattle.cdf_place.proofs.Replying.{take-is, part-is}
-use Rattle.cdf_place.specs.Slots.{openUnits, placeOf}
+use Rattle.cdf_unit_table.specs.States.{nothing, skipped, opens}
+use Rattle.cdf_unit_prefix.specs.Layout.{Layout}
+use Rattle.cdf_unit_list.specs.Stack.{withState}
+use Rattle.cdf_unit_list.specs.declared.Open.{Open}
+use Rattle.cdf_reader_spec.specs.Place.{ReaderPlace, fits}
+use Rattle.cdf_reader_spec.specs.Calls.{refuse, untouched, skippedTop, passed, passing, isGroup, takeOf, partOf}
+use Rattle.cdf_reader_spec.proofs.Fitting.{fitting}
+use Rattle.cdf_reader_spec.proofs.Replying.{take-is, part-is}
+use Rattle.cdf_reader_spec.specs.Slots.{openUnits, placeOf}
 use Rattle.cdf_reader.specs.View.{view}
 use Rattle.cdf_reader.specs.declared.Place.{Place}
 use Rattle.cdf_reader.proofs.Replies.{empty-is}

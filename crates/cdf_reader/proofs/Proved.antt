@@ -4,9 +4,9 @@ use mathlib.Core.Path.{_≡_, refl}
 use mathlib.Core.List.{List, [], _∷_}
 use native.Mathlib.Omega.{arith}
 use lib.ListN.{length}
-use Rattle.cdf_units.specs.declared.Open.{Open}
-use Rattle.cdf_place.specs.Place.{ReaderPlace}
-use Rattle.cdf_place.specs.Slots.{noOpen, around, openUnits}
+use Rattle.cdf_unit_list.specs.declared.Open.{Open}
+use Rattle.cdf_reader_spec.specs.Place.{ReaderPlace}
+use Rattle.cdf_reader_spec.specs.Slots.{noOpen, around, openUnits}
 use Rattle.cdf_reader.specs.View.{view}
 use Rattle.cdf_reader.specs.Words.{OpenWords, AllWords, PlaceWords, StructWords}
 use Rattle.cdf_reader.specs.Claims.{Claims}

@@ -5,19 +5,19 @@ use mathlib.Core.Bool.{true}
 use mathlib.Core.List.{List, []}
 use native.Mathlib.Omega.{arith}
 use lib.Dec.{eqb}
-use Rattle.cdf_table.proofs.Rows.{root-first, opens-by}
-use Rattle.cdf_prefix.specs.Layout.{Layout}
-use Rattle.cdf_judge.specs.Judge.{judgeOf}
-use Rattle.cdf_judge.specs.declared.Judged.the-variants.{Fault, Found}
-use Rattle.cdf_judge.proofs.Placed.{placed}
-use Rattle.cdf_units.specs.declared.Unit.{Unit}
-use Rattle.cdf_units.specs.declared.Open.{Open}
-use Rattle.cdf_units.proofs.Entering.{unitOf}
-use Rattle.cdf_units.proofs.Stepping.{faults, enters, opened-parent}
-use Rattle.cdf_place.specs.Place.{isEmpty}
-use Rattle.cdf_place.specs.Calls.{refuse, emptyPlace, stepped, firstOf}
-use Rattle.cdf_place.specs.Slots.{noOpen, around, openUnits, placeOf}
-use Rattle.cdf_place.proofs.Replying.{first-is}
+use Rattle.cdf_unit_table.proofs.Rows.{root-first, opens-by}
+use Rattle.cdf_unit_prefix.specs.Layout.{Layout}
+use Rattle.cdf_unit_judge.specs.Judge.{judgeOf}
+use Rattle.cdf_unit_judge.specs.declared.Judged.the-variants.{Fault, Found}
+use Rattle.cdf_unit_judge.proofs.Placed.{placed}
+use Rattle.cdf_unit_list.specs.declared.Unit.{Unit}
+use Rattle.cdf_unit_list.specs.declared.Open.{Open}
+use Rattle.cdf_unit_list.proofs.Entering.{unitOf}
+use Rattle.cdf_unit_list.proofs.Stepping.{faults, enters, opened-parent}
+use Rattle.cdf_reader_spec.specs.Place.{isEmpty}
+use Rattle.cdf_reader_spec.specs.Calls.{refuse, emptyPlace, stepped, firstOf}
+use Rattle.cdf_reader_spec.specs.Slots.{noOpen, around, openUnits, placeOf}
+use Rattle.cdf_reader_spec.proofs.Replying.{first-is}
 use Rattle.cdf_reader.specs.View.{view}
 use Rattle.cdf_reader.specs.declared.Place.{Place}
 use Rattle.cdf_reader.proofs.Counted.{length-open}

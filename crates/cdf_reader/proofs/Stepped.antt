@@ -6,23 +6,23 @@ use mathlib.Core.List.{List, _∷_, _++_}
 use native.Mathlib.Omega.{arith}
 use borrow.Author.Tests.{eq-eqb, ne-eqb}
 use lib.ListN.{length, take, drop, length-take}
-use Rattle.cdf_table.specs.States.{opens}
-use Rattle.cdf_table.proofs.Heights.{falls, opens-lower}
-use Rattle.cdf_prefix.specs.Layout.{Layout}
-use Rattle.cdf_judge.specs.Judge.{judgeOf}
-use Rattle.cdf_judge.specs.declared.Judged.the-variants.{Fault, Found}
-use Rattle.cdf_judge.proofs.Placed.{placed}
-use Rattle.cdf_judge.proofs.Faults.{offset-lies}
-use Rattle.cdf_units.specs.Stack.{close, Step, done, refused, found, opened, entered, withState, stepIn, step}
-use Rattle.cdf_units.specs.Units.{after}
-use Rattle.cdf_units.specs.declared.Open.{Open}
-use Rattle.cdf_units.proofs.Entering.{unitOf}
-use Rattle.cdf_units.proofs.Stepping.{faults, enters}
-use Rattle.cdf_place.specs.Place.{fits}
-use Rattle.cdf_place.specs.Slots.{around, openUnits}
-use Rattle.cdf_place.proofs.Fitting.{Kinds, Fitting, fitting}
-use Rattle.cdf_place.proofs.Opened.{kinds-bounded, at-most-four}
-use Rattle.cdf_place.proofs.Suffix.{suffix, ends-most, ends-least}
+use Rattle.cdf_unit_table.specs.States.{opens}
+use Rattle.cdf_unit_table.proofs.Heights.{falls, opens-lower}
+use Rattle.cdf_unit_prefix.specs.Layout.{Layout}
+use Rattle.cdf_unit_judge.specs.Judge.{judgeOf}
+use Rattle.cdf_unit_judge.specs.declared.Judged.the-variants.{Fault, Found}
+use Rattle.cdf_unit_judge.proofs.Placed.{placed}
+use Rattle.cdf_unit_judge.proofs.Faults.{offset-lies}
+use Rattle.cdf_unit_list.specs.Stack.{close, Step, done, refused, found, opened, entered, withState, stepIn, step}
+use Rattle.cdf_unit_list.specs.Units.{after}
+use Rattle.cdf_unit_list.specs.declared.Open.{Open}
+use Rattle.cdf_unit_list.proofs.Entering.{unitOf}
+use Rattle.cdf_unit_list.proofs.Stepping.{faults, enters}
+use Rattle.cdf_reader_spec.specs.Place.{fits}
+use Rattle.cdf_reader_spec.specs.Slots.{around, openUnits}
+use Rattle.cdf_reader_spec.proofs.Fitting.{Kinds, Fitting, fitting}
+use Rattle.cdf_reader_spec.proofs.Opened.{kinds-bounded, at-most-four}
+use Rattle.cdf_reader_spec.proofs.Suffix.{suffix, ends-most, ends-least}
 use Rattle.cdf_reader.specs.View.{view}
 use Rattle.cdf_reader.specs.Left.{Closed}
 use Rattle.cdf_reader.specs.declared.Place.{Place}

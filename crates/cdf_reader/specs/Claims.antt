@@ -2,7 +2,7 @@
 use Prim.Native.Nat.{_≤_}
 use mathlib.Core.Path.{_≡_}
 use lib.ListN.{length}
-use Rattle.cdf_place.specs.Place.{ReaderPlace}
+use Rattle.cdf_reader_spec.specs.Place.{ReaderPlace}
 use Rattle.cdf_reader.specs.View.{view}
 use Rattle.cdf_reader.specs.Words.{PlaceWords, StructWords}
 use Rattle.cdf_reader.specs.declared.Place.{Place}

@@ -5,11 +5,11 @@ use mathlib.Core.Bool.{false, cond}
 use mathlib.Core.List.{List, _++_}
 use lib.Dec.{eqb}
 use lib.ListN.{length}
-use Rattle.cdf_table.specs.States.{complete}
-use Rattle.cdf_units.specs.Stack.{withState}
-use Rattle.cdf_units.specs.declared.Open.{Open}
-use Rattle.cdf_place.specs.Slots.{noOpen, openUnits}
-use Rattle.cdf_place.specs.Closing.{unclosed}
+use Rattle.cdf_unit_table.specs.States.{complete}
+use Rattle.cdf_unit_list.specs.Stack.{withState}
+use Rattle.cdf_unit_list.specs.declared.Open.{Open}
+use Rattle.cdf_reader_spec.specs.Slots.{noOpen, openUnits}
+use Rattle.cdf_reader_spec.specs.Closing.{unclosed}
 use Rattle.cdf_reader.specs.declared.Place.{Place}
 
 -- The unit around the innermost of so many.

@@ -1,9 +1,9 @@
 -- What every call but a start asks first, and the place that goes with a number other than 0.
 use mathlib.Core.Bool.{Bool, true, false, not, _&&_}
-use Rattle.cdf_place.specs.Place.{ReaderPlace, isEmpty}
-use Rattle.cdf_place.specs.Calls.{untouched, isGroup}
-use Rattle.cdf_place.specs.declared.Call.{Call}
-use Rattle.cdf_place.specs.declared.Call.the-variants.{Start, Next, Skip, GetStream, Previous}
+use Rattle.cdf_reader_spec.specs.Place.{ReaderPlace, isEmpty}
+use Rattle.cdf_reader_spec.specs.Calls.{untouched, isGroup}
+use Rattle.cdf_reader_spec.specs.declared.Call.{Call}
+use Rattle.cdf_reader_spec.specs.declared.Call.the-variants.{Start, Next, Skip, GetStream, Previous}
 use Rattle.cdf_reader.specs.View.{noPlace}
 use Rattle.cdf_reader.specs.declared.Place.{Place}
 

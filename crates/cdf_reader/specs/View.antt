@@ -3,11 +3,11 @@ use Prim.Native.Nat.{ℕ}
 use mathlib.Core.Bool.{false}
 use mathlib.Core.List.{List}
 use lib.ListN.{take, drop}
-use Rattle.cdf_prefix.specs.Layout.{layoutOf}
-use Rattle.cdf_prefix.specs.declared.Edition.the-variants.{First}
-use Rattle.cdf_place.specs.Place.{ReaderPlace}
-use Rattle.cdf_place.specs.Calls.{Reply, Part, noUnit, partOf}
-use Rattle.cdf_place.specs.Slots.{noOpen, placeOf}
+use Rattle.cdf_unit_prefix.specs.Layout.{layoutOf}
+use Rattle.cdf_unit_prefix.specs.declared.Edition.the-variants.{First}
+use Rattle.cdf_reader_spec.specs.Place.{ReaderPlace}
+use Rattle.cdf_reader_spec.specs.Calls.{Reply, Part, noUnit, partOf}
+use Rattle.cdf_reader_spec.specs.Slots.{noOpen, placeOf}
 use Rattle.cdf_reader.specs.declared.Place.{Place}
 use Rattle.cdf_reader.specs.declared.Answer.{Answer}
 

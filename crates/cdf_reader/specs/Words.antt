@@ -1,9 +1,9 @@
 -- Places and structs whose numbers a field can hold.
 use Prim.Native.Nat.{ℕ, _<_}
 use mathlib.Core.List.{List, [], _∷_}
-use Rattle.cdf_units.specs.declared.Unit.{Unit}
-use Rattle.cdf_units.specs.declared.Open.{Open}
-use Rattle.cdf_place.specs.Place.{ReaderPlace}
+use Rattle.cdf_unit_list.specs.declared.Unit.{Unit}
+use Rattle.cdf_unit_list.specs.declared.Open.{Open}
+use Rattle.cdf_reader_spec.specs.Place.{ReaderPlace}
 use Rattle.cdf_reader.specs.declared.Place.{Place}
 
 -- Numbers that a field of the struct can hold: below 2^64.

@@ -1,12 +1,12 @@
 // What holds nothing: the unit beside a refusal and the place of zeros; and the answer that hands out no unit.
 ghost use mathlib.Core.Path.{_≡_};
-ghost use Rattle.cdf_place.specs.Calls.{noUnit};
-ghost use Rattle.cdf_place.specs.Slots.{noOpen};
+ghost use Rattle.cdf_reader_spec.specs.Calls.{noUnit};
+ghost use Rattle.cdf_reader_spec.specs.Slots.{noOpen};
 ghost use Rattle.cdf_reader.specs.View.{noPlace, refusal};
 use crate::Answer;
 use crate::Place;
-use cdf_units::Open;
-use cdf_units::Unit;
+use cdf_unit_list::Open;
+use cdf_unit_list::Unit;
 
 fn no_unit() -> Unit
     ensures { λ r. ⌜ r ≡ noUnit ⌝ }

@@ -1,23 +1,23 @@
 // What SKIP and GET_STREAM do, and what every call asks first.
 ghost use mathlib.Core.Path.{_≡_};
 ghost use mathlib.Core.Bool.{_||_};
-ghost use Rattle.cdf_prefix.specs.Layout.{layoutOf};
-ghost use Rattle.cdf_place.specs.Place.{fits};
-ghost use Rattle.cdf_place.specs.Calls.{refuse, untouched, passed};
+ghost use Rattle.cdf_unit_prefix.specs.Layout.{layoutOf};
+ghost use Rattle.cdf_reader_spec.specs.Place.{fits};
+ghost use Rattle.cdf_reader_spec.specs.Calls.{refuse, untouched, passed};
 ghost use Rattle.cdf_reader.specs.View.{view, replyOf};
 ghost use Rattle.cdf_reader.specs.Uses.{isStart, hasUse};
 use crate::Answer;
 use crate::Place;
 use crate::is_start;
 use crate::nothing::refused;
-use cdf_fit::fits;
-use cdf_place::Call;
-use cdf_prefix::Edition;
-use cdf_table::ER_GROUP;
-use cdf_table::FILE_GROUP;
-use cdf_table::first_state;
-use cdf_table::skipped_state;
-use cdf_units::Open;
+use cdf_reader_fit::fits;
+use cdf_reader_spec::Call;
+use cdf_unit_list::Open;
+use cdf_unit_prefix::Edition;
+use cdf_unit_table::ER_GROUP;
+use cdf_unit_table::FILE_GROUP;
+use cdf_unit_table::first_state;
+use cdf_unit_table::skipped_state;
 
 impl Place {
     // The place past the last unit, which stays open and is skipped.

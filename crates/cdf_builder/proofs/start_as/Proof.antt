@@ -2,8 +2,8 @@
 use mathlib.Core.Path.{refl, sym, _∙_}
 use borrow.Author.Needs.{needs}
 use borrow.Author.Tests.{not-true, not-false}
-use Rattle.cdf_place.specs.Slots.{around, openUnits}
-use Rattle.cdf_build.proofs.Replying.{start-zero, start-done}
+use Rattle.cdf_reader_spec.specs.Slots.{around, openUnits}
+use Rattle.cdf_builder_spec.proofs.Replying.{start-zero, start-done}
 use Rattle.cdf_builder.proofs.Calling.{id-byte, start-unknown, start-inner, start-full}
 use Rattle.cdf_builder.proofs.start_as.Statement.{statement}
 use Rattle.cdf_builder.proofs.start_as.Tie as tie

@@ -8,14 +8,14 @@ use borrow.Author.Needs.{needs}
 use borrow.Fn.Kinds.{In}
 use borrow.Fn.PlainCycle.{Measures, is, falls, and}
 use lib.ListN.{length, drop, length-take, length-drop}
-use Rattle.cdf_prefix.specs.Layout.{layoutOf}
-use Rattle.cdf_judge.specs.Judge.{judgeOf}
-use Rattle.cdf_judge.specs.declared.Judged.{Judged}
-use Rattle.cdf_table.proofs.is_complete.Reads as is-complete-reads
-use Rattle.cdf_table.proofs.first_state.Reads as first-state-reads
-use Rattle.cdf_judge.proofs.judge.Reads as judge-reads
-use Rattle.cdf_table.proofs.Parts.{rest, minus-plus}
-use Rattle.cdf_judge.proofs.Faults.{offset-lies}
+use Rattle.cdf_unit_prefix.specs.Layout.{layoutOf}
+use Rattle.cdf_unit_judge.specs.Judge.{judgeOf}
+use Rattle.cdf_unit_judge.specs.declared.Judged.{Judged}
+use Rattle.cdf_unit_table.proofs.is_complete.Reads as is-complete-reads
+use Rattle.cdf_unit_table.proofs.first_state.Reads as first-state-reads
+use Rattle.cdf_unit_judge.proofs.judge.Reads as judge-reads
+use Rattle.cdf_unit_table.proofs.Parts.{rest, minus-plus}
+use Rattle.cdf_unit_judge.proofs.Faults.{offset-lies}
 use Rattle.cdf_check.proofs.Walked.{Going, begun, finished, stopped, Lies, lies, deeper, stopped-inside, on-inside, on-leaf}
 use Rattle.cdf_check.proofs.check_inside.Reads as reads
 use Rattle.cdf_check.proofs.check_inside.Kinds as kinds

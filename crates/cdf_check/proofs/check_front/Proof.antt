@@ -4,10 +4,10 @@ use mathlib.Core.Path.{_∙_}
 use native.Mathlib.Omega.{arith}
 use borrow.Author.Needs.{needs}
 use lib.ListN.{length-take}
-use Rattle.cdf_prefix.specs.Layout.{layoutOf}
-use Rattle.cdf_judge.proofs.Placed.{placed}
-use Rattle.cdf_table.proofs.Heights.{opens-lower, height-most}
-use Rattle.cdf_table.proofs.Rows.{opens-by, leaf-by}
+use Rattle.cdf_unit_prefix.specs.Layout.{layoutOf}
+use Rattle.cdf_unit_judge.proofs.Placed.{placed}
+use Rattle.cdf_unit_table.proofs.Heights.{opens-lower, height-most}
+use Rattle.cdf_unit_table.proofs.Rows.{opens-by, leaf-by}
 use Rattle.cdf_check.proofs.Walked.{front-stopped, front-found}
 use Rattle.cdf_check.proofs.check_front.Statement.{statement}
 use Rattle.cdf_check.proofs.check_front.Tie as tie

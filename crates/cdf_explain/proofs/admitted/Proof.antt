@@ -4,7 +4,7 @@ use mathlib.Core.Path.{_≡_, sym, _∙_}
 use mathlib.Core.Logic.{⊎-elim}
 use native.Mathlib.Omega.{arith}
 use borrow.Author.Needs.{needs}
-use Rattle.cdf_table.specs.Ids.{idsEnd}
+use Rattle.cdf_unit_table.specs.Ids.{idsEnd}
 use Rattle.cdf_explain.specs.Parts.{maysAt}
 use Rattle.cdf_explain.proofs.Filling.{Filled, begun, taken, passed, none-stands}
 use Rattle.cdf_explain.proofs.admitted.Statement.{statement}

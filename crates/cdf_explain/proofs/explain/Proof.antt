@@ -3,10 +3,10 @@ use Prim.Native.Nat.{_≤_}
 use mathlib.Core.Path.{_≡_, ap, sym, _∙_}
 use borrow.Author.Needs.{needs}
 use lib.ListN.{length}
-use Rattle.cdf_prefix.specs.Layout.{layoutOf}
-use Rattle.cdf_prefix.specs.declared.Edition.the-variants.{First}
+use Rattle.cdf_unit_prefix.specs.Layout.{layoutOf}
+use Rattle.cdf_unit_prefix.specs.declared.Edition.the-variants.{First}
 use Rattle.cdf_reader.specs.View.{view, replyOf}
-use Rattle.cdf_runs.proofs.Further.{first-later, next-later, ahead, less}
+use Rattle.cdf_reader_runs.proofs.Further.{first-later, next-later, ahead, less}
 use Rattle.cdf_explain.specs.Numbers.{explainedBy}
 use Rattle.cdf_explain.specs.Parts.{toldAt}
 use Rattle.cdf_explain.proofs.Explaining.{Going, begun, on, over, closed-units, closed-few}

@@ -4,9 +4,9 @@ use mathlib.Core.List.{List, [], _∷_}
 use borrow.Author.Needs.{needs}
 use Prim.Native.Nat.{ℕ}
 use lib.ListN.{getD}
-use Rattle.cdf_table.specs.States.{unitOf, statesEnd}
-use Rattle.cdf_table.proofs.Tables.{same-below}
-use Rattle.cdf_table.proofs.Rows.{no-unit}
+use Rattle.cdf_unit_table.specs.States.{unitOf, statesEnd}
+use Rattle.cdf_unit_table.proofs.Tables.{same-below}
+use Rattle.cdf_unit_table.proofs.Rows.{no-unit}
 use Rattle.cdf_explain.proofs.unit_of.Statement.{statement}
 use Rattle.cdf_explain.proofs.unit_of.Tie as tie
 

@@ -3,7 +3,7 @@ use Prim.Native.Nat.{ℕ, _<_}
 use native.Mathlib.Omega.{arith}
 use borrow.Fn.Kinds.{In}
 use borrow.Fn.PlainCycle.{Measures, is, falls, and}
-use Rattle.cdf_text.proofs.Digits.{decimal-digit, decimal-more}
+use Rattle.cdf_listing_spec.proofs.Digits.{decimal-digit, decimal-more}
 use Rattle.cdf_listing.proofs.Putting.{put-both, put-length, room-first, room-then}
 use Rattle.cdf_listing.proofs.put_decimal.Reads as reads
 use Rattle.cdf_listing.proofs.put_decimal.Kinds as kinds

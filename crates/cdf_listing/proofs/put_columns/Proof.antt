@@ -1,6 +1,6 @@
 -- A call is named by what it puts: `start`, `depth`, `id`, `action`.
 use borrow.Author.Needs.{needs}
-use Rattle.cdf_text.specs.Text.{columns}
+use Rattle.cdf_listing_spec.specs.Text.{columns}
 use Rattle.cdf_listing.proofs.Putting.{put-both, room-first, room-then}
 use Rattle.cdf_listing.proofs.put_columns.Statement.{statement}
 use Rattle.cdf_listing.proofs.put_columns.Tie as tie

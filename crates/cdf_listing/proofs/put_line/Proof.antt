@@ -1,6 +1,6 @@
 -- A call is named by what it puts: `columns`, `size`, `feed`.
 use borrow.Author.Needs.{needs}
-use Rattle.cdf_text.specs.Text.{lineOf}
+use Rattle.cdf_listing_spec.specs.Text.{lineOf}
 use Rattle.cdf_listing.proofs.Putting.{put-both, room-first, room-then}
 use Rattle.cdf_listing.proofs.put_line.Statement.{statement}
 use Rattle.cdf_listing.proofs.put_line.Tie as tie

@@ -2,8 +2,8 @@
 use mathlib.Core.Path.{sym, _∙_}
 use native.Mathlib.Omega.{arith}
 use borrow.Author.Needs.{needs}
-use Rattle.cdf_prefix.specs.Layout.{layoutOf}
-use Rattle.cdf_prefix.specs.declared.Edition.the-variants.{First}
+use Rattle.cdf_unit_prefix.specs.Layout.{layoutOf}
+use Rattle.cdf_unit_prefix.specs.declared.Edition.the-variants.{First}
 use Rattle.cdf_listing.proofs.Answered.{accepted, turned-down, ok-room, refused-room}
 use Rattle.cdf_listing.proofs.Putting.{put-both}
 use Rattle.cdf_listing.proofs.put_listing.Statement.{statement}

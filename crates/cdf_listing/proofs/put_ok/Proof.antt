@@ -1,7 +1,7 @@
 -- A call is named by what it puts: `ok`, `units`, `feed`.
 use native.Mathlib.Omega.{arith}
 use borrow.Author.Needs.{needs}
-use Rattle.cdf_text.specs.Text.{okLine}
+use Rattle.cdf_listing_spec.specs.Text.{okLine}
 use Rattle.cdf_listing.proofs.Putting.{put-both, room-first, room-then}
 use Rattle.cdf_listing.proofs.put_ok.Statement.{statement}
 use Rattle.cdf_listing.proofs.put_ok.Tie as tie

@@ -1,6 +1,6 @@
 -- A call is named by what it puts: `refused`, `number`, `at`, `offset`, `feed`.
 use borrow.Author.Needs.{needs}
-use Rattle.cdf_text.specs.Text.{refusedLine}
+use Rattle.cdf_listing_spec.specs.Text.{refusedLine}
 use Rattle.cdf_listing.proofs.Putting.{put-both, room-first, room-then}
 use Rattle.cdf_listing.proofs.put_refused.Statement.{statement}
 use Rattle.cdf_listing.proofs.put_refused.Tie as tie

@@ -1,8 +1,8 @@
 -- The loop ends, since each unit comes further.
 use borrow.Author.Needs.{needs}
-use Rattle.cdf_prefix.specs.Layout.{layoutOf}
-use Rattle.cdf_prefix.specs.declared.Edition.the-variants.{First}
-use Rattle.cdf_runs.proofs.Further.{ahead}
+use Rattle.cdf_unit_prefix.specs.Layout.{layoutOf}
+use Rattle.cdf_unit_prefix.specs.declared.Edition.the-variants.{First}
+use Rattle.cdf_reader_runs.proofs.Further.{ahead}
 use Rattle.cdf_listing.proofs.Putting.{put-length}
 use Rattle.cdf_listing.proofs.Lining.{Lined, lined-first, lined-over, lined-few, lined-room, lined-next, lined-less}
 use Rattle.cdf_listing.proofs.put_units.Statement.{statement}

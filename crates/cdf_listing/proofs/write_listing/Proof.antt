@@ -1,9 +1,9 @@
 -- Both passes put the same text: the first one tells its length.
 use native.Mathlib.Omega.{arith}
 use borrow.Author.Needs.{needs}
-use Rattle.cdf_prefix.specs.Layout.{layoutOf}
-use Rattle.cdf_prefix.specs.declared.Edition.the-variants.{First}
-use Rattle.cdf_text.specs.Text.{listingText}
+use Rattle.cdf_unit_prefix.specs.Layout.{layoutOf}
+use Rattle.cdf_unit_prefix.specs.declared.Edition.the-variants.{First}
+use Rattle.cdf_listing_spec.specs.Text.{listingText}
 use Rattle.cdf_listing.proofs.Filled.{too-long, filled}
 use Rattle.cdf_listing.proofs.write_listing.Statement.{statement}
 use Rattle.cdf_listing.proofs.write_listing.Tie as tie

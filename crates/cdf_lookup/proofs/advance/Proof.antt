@@ -1,7 +1,7 @@
 -- By the state: what the tests say is what the definition asks.
 use borrow.Author.Tests.{lt-ltb, le-ltb, not-true, not-false}
 use borrow.Author.Needs.{needs}
-use Rattle.cdf_find.specs.Search.{advanceOf}
+use Rattle.cdf_lookup_spec.specs.Search.{advanceOf}
 use Rattle.cdf_lookup.proofs.advance.Statement.{statement}
 use Rattle.cdf_lookup.proofs.advance.Tie as tie
 

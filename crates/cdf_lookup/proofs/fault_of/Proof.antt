@@ -1,9 +1,9 @@
 -- By the check's answer: an accepted stream has a tree, and a refusal's number is not 0.
 use mathlib.Core.Path.{refl, sym, ap, _∙_}
 use borrow.Author.Needs.{needs}
-use Rattle.cdf_prefix.specs.Layout.{layoutOf}
-use Rattle.cdf_prefix.specs.declared.Edition.the-variants.{First}
-use Rattle.cdf_units.specs.Check.{Answer}
+use Rattle.cdf_unit_prefix.specs.Layout.{layoutOf}
+use Rattle.cdf_unit_prefix.specs.declared.Edition.the-variants.{First}
+use Rattle.cdf_unit_list.specs.Check.{Answer}
 use Rattle.cdf_check.specs.Answers.{paperOf}
 use Rattle.cdf_lookup.proofs.Rooted.{refused-some}
 use Rattle.cdf_lookup.proofs.fault_of.Statement.{statement}

@@ -1,7 +1,7 @@
 -- The id, and then the bytes behind the prefix.
 use borrow.Author.Tests.{eq-eqb, ne-eqb}
 use borrow.Author.Needs.{needs}
-use Rattle.cdf_find.specs.Find.{reads}
+use Rattle.cdf_lookup_spec.specs.Find.{reads}
 use Rattle.cdf_lookup.proofs.holds.Statement.{statement}
 use Rattle.cdf_lookup.proofs.holds.Tie as tie
 

@@ -3,11 +3,11 @@ use Prim.Native.Nat.{ℕ}
 use mathlib.Core.Path.{_≡_, sym, _∙_}
 use mathlib.Core.List.{List}
 use borrow.Author.Needs.{needs}
-use Rattle.cdf_prefix.specs.Layout.{Layout, layoutOf}
-use Rattle.cdf_prefix.specs.declared.Edition.the-variants.{First}
-use Rattle.cdf_find.specs.Find.{Query, query, refusal, orElse, lookupOf}
-use Rattle.cdf_find.specs.Search.{searchOf}
-use Rattle.cdf_find.specs.declared.Lookup.{Lookup}
+use Rattle.cdf_unit_prefix.specs.Layout.{Layout, layoutOf}
+use Rattle.cdf_unit_prefix.specs.declared.Edition.the-variants.{First}
+use Rattle.cdf_lookup_spec.specs.Find.{Query, query, refusal, orElse, lookupOf}
+use Rattle.cdf_lookup_spec.specs.Search.{searchOf}
+use Rattle.cdf_lookup_spec.specs.declared.Lookup.{Lookup}
 use Rattle.cdf_lookup.proofs.Deciding.{by-first, by-second, by-root, by-search, refuses, finds}
 use Rattle.cdf_lookup.proofs.lookup_place.Statement.{statement}
 use Rattle.cdf_lookup.proofs.lookup_place.Tie as tie

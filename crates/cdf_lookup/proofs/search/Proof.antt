@@ -4,15 +4,15 @@ use mathlib.Core.Path.{_≡_, sym, _∙_}
 use mathlib.Core.List.{List}
 use borrow.Author.Needs.{needs}
 use lib.ListN.{length}
-use Rattle.cdf_prefix.specs.Layout.{Layout, layoutOf}
-use Rattle.cdf_prefix.specs.declared.Edition.the-variants.{First}
-use Rattle.cdf_place.specs.Calls.{nextOf}
+use Rattle.cdf_unit_prefix.specs.Layout.{Layout, layoutOf}
+use Rattle.cdf_unit_prefix.specs.declared.Edition.the-variants.{First}
+use Rattle.cdf_reader_spec.specs.Calls.{nextOf}
 use Rattle.cdf_reader.specs.View.{view, replyOf}
-use Rattle.cdf_runs.proofs.Further.{first-later, next-later, ahead, less}
-use Rattle.cdf_runs.proofs.Folding.{Going, begun, Turn, turned}
-use Rattle.cdf_find.specs.Find.{Query, query}
-use Rattle.cdf_find.specs.Search.{advanceOf, outcomeOf}
-use Rattle.cdf_find.specs.declared.Search.the-variants.{Seeking}
+use Rattle.cdf_reader_runs.proofs.Further.{first-later, next-later, ahead, less}
+use Rattle.cdf_reader_runs.proofs.Folding.{Going, begun, Turn, turned}
+use Rattle.cdf_lookup_spec.specs.Find.{Query, query}
+use Rattle.cdf_lookup_spec.specs.Search.{advanceOf, outcomeOf}
+use Rattle.cdf_lookup_spec.specs.declared.Search.the-variants.{Seeking}
 use Rattle.cdf_lookup.specs.Parts.{Placed}
 use Rattle.cdf_lookup.proofs.Searched.{nowhere, lies-in, goes-on, keeps-place, searched, over-early}
 use Rattle.cdf_lookup.proofs.search.Statement.{statement}

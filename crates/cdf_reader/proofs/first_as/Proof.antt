@@ -1,7 +1,7 @@
 -- By the judgement of the root (proofs/Replies).
 use mathlib.Core.Path.{refl, sym, ap, _∙_}
 use borrow.Author.Needs.{needs}
-use Rattle.cdf_place.specs.Slots.{openUnits}
+use Rattle.cdf_reader_spec.specs.Slots.{openUnits}
 use Rattle.cdf_reader.specs.View.{replyOf}
 use Rattle.cdf_reader.specs.declared.Answer.{Answer}
 use Rattle.cdf_reader.proofs.Replies.{first-fault, first-found}

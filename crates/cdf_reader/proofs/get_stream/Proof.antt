@@ -2,9 +2,9 @@
 use mathlib.Core.Path.{sym, ap, _∙_}
 use native.Mathlib.Omega.{arith}
 use borrow.Author.Needs.{needs}
-use Rattle.cdf_prefix.specs.Layout.{layoutOf}
-use Rattle.cdf_prefix.specs.declared.Edition.the-variants.{First}
-use Rattle.cdf_place.specs.Calls.{Reply}
+use Rattle.cdf_unit_prefix.specs.Layout.{layoutOf}
+use Rattle.cdf_unit_prefix.specs.declared.Edition.the-variants.{First}
+use Rattle.cdf_reader_spec.specs.Calls.{Reply}
 use Rattle.cdf_reader.specs.View.{view}
 use Rattle.cdf_reader.proofs.Passing.{part-none, part-some, part-within}
 use Rattle.cdf_reader.proofs.get_stream.Statement.{statement}

@@ -1,6 +1,6 @@
 -- What is decided, and where that is 0, what is written (proofs/Calling).
 use borrow.Author.Needs.{needs}
-use Rattle.cdf_build.specs.Requests.{bytesFor}
+use Rattle.cdf_builder_spec.specs.Requests.{bytesFor}
 use Rattle.cdf_builder.proofs.Calling.{refusing, writing}
 use Rattle.cdf_builder.proofs.Few.{few-after}
 use Rattle.cdf_builder.proofs.Builder.add_stream_as.Statement.{statement}

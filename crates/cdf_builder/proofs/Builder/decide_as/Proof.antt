@@ -6,10 +6,10 @@ use native.Mathlib.Omega.{arith}
 use borrow.Author.Needs.{needs}
 use borrow.Author.Tests.{not-true, not-false}
 use lib.ListN.{length}
-use Rattle.cdf_table.specs.Ids.{known}
-use Rattle.cdf_prefix.specs.Layout.{layoutOf}
-use Rattle.cdf_build.specs.Place.{fits}
-use Rattle.cdf_build.specs.Requests.{unit}
+use Rattle.cdf_unit_table.specs.Ids.{known}
+use Rattle.cdf_unit_prefix.specs.Layout.{layoutOf}
+use Rattle.cdf_builder_spec.specs.Place.{fits}
+use Rattle.cdf_builder_spec.specs.Requests.{unit}
 use Rattle.cdf_builder.specs.View.{view}
 use Rattle.cdf_builder.proofs.Decided.{declined, unfit, unknown, not-joined, wrong, Grows, grows, unit-grows, sum-fits}
 use Rattle.cdf_builder.proofs.Few.{growable}

@@ -6,9 +6,9 @@ use native.Mathlib.Omega.{arith}
 use borrow.Author.Needs.{needs}
 use borrow.Author.Tests.{not-true, not-false}
 use lib.ListN.{length}
-use Rattle.cdf_prefix.specs.Layout.{layoutOf}
-use Rattle.cdf_build.specs.Place.{fits}
-use Rattle.cdf_build.specs.Requests.{group}
+use Rattle.cdf_unit_prefix.specs.Layout.{layoutOf}
+use Rattle.cdf_builder_spec.specs.Place.{fits}
+use Rattle.cdf_builder_spec.specs.Requests.{group}
 use Rattle.cdf_builder.specs.View.{view}
 use Rattle.cdf_builder.proofs.Decided.{declined, unfit, no-group, group-not-joined, Grows, grows, group-grows, sum-fits}
 use Rattle.cdf_builder.proofs.Few.{growable}

@@ -2,7 +2,7 @@
 use mathlib.Core.Path.{_≡_, refl}
 use native.Mathlib.Omega.{arith}
 use borrow.Author.Needs.{needs}
-use Rattle.cdf_place.specs.Slots.{around, openUnits}
+use Rattle.cdf_reader_spec.specs.Slots.{around, openUnits}
 use Rattle.cdf_builder.proofs.Entered.{leaf, pushed}
 use Rattle.cdf_builder.proofs.Builder.enter.Statement.{statement}
 use Rattle.cdf_builder.proofs.Builder.enter.Tie as tie

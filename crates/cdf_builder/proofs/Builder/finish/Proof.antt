@@ -4,10 +4,10 @@ use mathlib.Core.Bool.{cond, not}
 use borrow.Author.Needs.{needs}
 use borrow.Author.Tests.{not-true, not-false}
 use lib.ListN.{length}
-use Rattle.cdf_prefix.specs.Layout.{layoutOf}
-use Rattle.cdf_prefix.specs.declared.Edition.the-variants.{First}
-use Rattle.cdf_build.specs.Calls.{finishOf}
-use Rattle.cdf_join.proofs.Parts.{units-any}
+use Rattle.cdf_unit_prefix.specs.Layout.{layoutOf}
+use Rattle.cdf_unit_prefix.specs.declared.Edition.the-variants.{First}
+use Rattle.cdf_builder_spec.specs.Calls.{finishOf}
+use Rattle.cdf_builder_join.proofs.Parts.{units-any}
 use Rattle.cdf_builder.specs.View.{view}
 use Rattle.cdf_builder.proofs.Builder.finish.Statement.{statement}
 use Rattle.cdf_builder.proofs.Builder.finish.Tie as tie

@@ -2,8 +2,8 @@
 use mathlib.Core.Path.{refl, sym, ap, _∙_}
 use borrow.Author.Needs.{needs}
 use borrow.Author.Tests.{ne-eqb}
-use Rattle.cdf_build.specs.Place.{BuilderPlace}
-use Rattle.cdf_build.specs.Calls.{Decision}
+use Rattle.cdf_builder_spec.specs.Place.{BuilderPlace}
+use Rattle.cdf_builder_spec.specs.Calls.{Decision}
 use Rattle.cdf_builder.proofs.Builder.grow.Statement.{statement}
 use Rattle.cdf_builder.proofs.Builder.grow.Tie as tie
 

@@ -1,6 +1,6 @@
 -- The units of the view are those of the parts.
 use borrow.Author.Needs.{needs}
-use Rattle.cdf_join.proofs.Parts.{units-any}
+use Rattle.cdf_builder_join.proofs.Parts.{units-any}
 use Rattle.cdf_builder.proofs.Builder.join.Statement.{statement}
 use Rattle.cdf_builder.proofs.Builder.join.Tie as tie
 

@@ -1,7 +1,7 @@
 -- The unit, and then the lengths.
 use mathlib.Core.Path.{_∙_}
 use borrow.Author.Needs.{needs}
-use Rattle.cdf_build.specs.Calls.{writeOf}
+use Rattle.cdf_builder_spec.specs.Calls.{writeOf}
 use Rattle.cdf_builder.proofs.writing.write.Statement.{statement}
 use Rattle.cdf_builder.proofs.writing.write.Tie as tie
 

@@ -1,7 +1,7 @@
 -- The empty place and no unit.
 use mathlib.Core.Path.{refl}
 use borrow.Author.Needs.{needs}
-use Rattle.cdf_place.specs.Slots.{openUnits}
+use Rattle.cdf_reader_spec.specs.Slots.{openUnits}
 use Rattle.cdf_reader.proofs.Place.abnormal_end.Statement.{statement}
 use Rattle.cdf_reader.proofs.Place.abnormal_end.Tie as tie
 

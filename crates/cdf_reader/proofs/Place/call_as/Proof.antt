@@ -3,7 +3,7 @@
 use mathlib.Core.Path.{sym, _∙_}
 use borrow.Author.Needs.{needs}
 use borrow.Author.Tests.{not-true, not-false}
-use Rattle.cdf_prefix.specs.Layout.{layoutOf}
+use Rattle.cdf_unit_prefix.specs.Layout.{layoutOf}
 use Rattle.cdf_reader.proofs.Asking.{useless, unfit, fit-next, starts, steps, skips, takes, again}
 use Rattle.cdf_reader.proofs.Place.call_as.Statement.{statement}
 use Rattle.cdf_reader.proofs.Place.call_as.Tie as tie

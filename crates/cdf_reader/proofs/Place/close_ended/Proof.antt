@@ -1,6 +1,6 @@
 -- The units that closing leaves are those of the place.
 use borrow.Author.Needs.{needs}
-use Rattle.cdf_place.specs.Closing.{closedAt}
+use Rattle.cdf_reader_spec.specs.Closing.{closedAt}
 use Rattle.cdf_reader.proofs.Place.close_ended.Statement.{statement}
 use Rattle.cdf_reader.proofs.Place.close_ended.Tie as tie
 

@@ -2,8 +2,8 @@
 use mathlib.Core.Path.{refl, sym, _∙_}
 use borrow.Author.Needs.{needs}
 use borrow.Author.Tests.{not-true, not-false}
-use Rattle.cdf_prefix.specs.Layout.{layoutOf}
-use Rattle.cdf_place.specs.declared.Call.the-variants.{Next}
+use Rattle.cdf_unit_prefix.specs.Layout.{layoutOf}
+use Rattle.cdf_reader_spec.specs.declared.Call.the-variants.{Next}
 use Rattle.cdf_reader.proofs.Asking.{by-next, useless, unfit, steps, next-none, next-some}
 use Rattle.cdf_reader.proofs.Place.next_as.Statement.{statement}
 use Rattle.cdf_reader.proofs.Place.next_as.Tie as tie

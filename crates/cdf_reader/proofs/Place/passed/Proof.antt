@@ -1,7 +1,7 @@
 -- The place past the unit (proofs/Passing).
 use mathlib.Core.Path.{ap, _∙_}
 use borrow.Author.Needs.{needs}
-use Rattle.cdf_units.specs.Stack.{withState}
+use Rattle.cdf_unit_list.specs.Stack.{withState}
 use Rattle.cdf_reader.specs.View.{replyOf}
 use Rattle.cdf_reader.proofs.Passing.{passed-is}
 use Rattle.cdf_reader.proofs.Place.passed.Statement.{statement}

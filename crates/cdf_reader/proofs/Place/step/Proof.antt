@@ -3,8 +3,8 @@
 use mathlib.Core.Path.{sym, ap, _∙_}
 use native.Mathlib.Omega.{arith}
 use borrow.Author.Needs.{needs}
-use Rattle.cdf_prefix.specs.Layout.{layoutOf}
-use Rattle.cdf_place.specs.Calls.{Reply, stepped}
+use Rattle.cdf_unit_prefix.specs.Layout.{layoutOf}
+use Rattle.cdf_reader_spec.specs.Calls.{Reply, stepped}
 use Rattle.cdf_reader.specs.View.{view, replyOf}
 use Rattle.cdf_reader.specs.declared.Answer.{Answer}
 use Rattle.cdf_reader.proofs.Stepped.{few-left, at-end, at-incomplete, inside-fault, inside-found, within, room, unit-within, fault-within}

@@ -3,7 +3,7 @@ use mathlib.Core.Path.{sym, _∙_}
 use native.Mathlib.Omega.{arith}
 use borrow.Author.Needs.{needs}
 use borrow.Author.Tests.{not-true, not-false}
-use Rattle.cdf_place.specs.Slots.{openUnits}
+use Rattle.cdf_reader_spec.specs.Slots.{openUnits}
 use Rattle.cdf_reader.proofs.Closings.{Going, begun, stopped, on}
 use Rattle.cdf_reader.proofs.steps.close.Statement.{statement}
 use Rattle.cdf_reader.proofs.steps.close.Tie as tie

@@ -2,9 +2,9 @@
 use mathlib.Core.Path.{_≡_, refl}
 use native.Mathlib.Omega.{arith}
 use borrow.Author.Needs.{needs}
-use Rattle.cdf_units.specs.Stack.{withState}
-use Rattle.cdf_place.specs.Slots.{around, openUnits}
-use Rattle.cdf_table.proofs.Rows.{opens-by}
+use Rattle.cdf_unit_list.specs.Stack.{withState}
+use Rattle.cdf_reader_spec.specs.Slots.{around, openUnits}
+use Rattle.cdf_unit_table.proofs.Rows.{opens-by}
 use Rattle.cdf_reader.proofs.Entered.{leaf, pushed}
 use Rattle.cdf_reader.proofs.steps.enter.Statement.{statement}
 use Rattle.cdf_reader.proofs.steps.enter.Tie as tie

@@ -1,0 +1,80 @@
+-- `cdf_builder_cases::run_lines` is safe and ends. The buffer keeps its length, and the measure is the number of turns left.
+-- Assumes nothing.
+use mathlib.Core.Path.{_≡_}
+use lib.ListN.{length}
+use borrow.Author.Needs.{needs}
+use Rattle.cdf_builder_cases.proofs.run_lines.Statement.{statement}
+use Rattle.cdf_builder_cases.proofs.run_lines.Tie as tie
+
+abbrev Inv-loop : tie.InvT-loop
+Inv-loop buffer₀ place₀ left₀ buffer place left = length buffer ≡ length buffer₀
+
+abbrev μ-loop : tie.MeasureT-loop
+μ-loop buffer₀ place₀ left₀ buffer place left = left
+
+loop-holds : tie.Need-loop-holds Inv-loop μ-loop
+loop-holds c = search needs
+
+next-byte-requires : tie.Need-next-byte-requires Inv-loop μ-loop
+next-byte-requires c κs = search needs
+
+write-place-requires : tie.Need-write-place-requires Inv-loop μ-loop
+write-place-requires c κs = search needs
+
+write-buffer-requires : tie.Need-write-buffer-requires Inv-loop μ-loop
+write-buffer-requires c κs = search needs
+
+next-byte-requires-2 : tie.Need-next-byte-requires-2 Inv-loop μ-loop
+next-byte-requires-2 c κs = search needs
+
+same-length : tie.Need-same-length Inv-loop μ-loop
+same-length c = search needs
+
+returns : tie.Need-returns Inv-loop μ-loop
+returns c = search needs
+
+run-line-requires : tie.Need-run-line-requires Inv-loop μ-loop
+run-line-requires c κs = search needs
+
+same-length-2 : tie.Need-same-length-2 Inv-loop μ-loop
+same-length-2 c = search needs
+
+returns-2 : tie.Need-returns-2 Inv-loop μ-loop
+returns-2 c = search needs
+
+sub-left : tie.Need-sub-left Inv-loop μ-loop
+sub-left c = search needs
+
+loop-less : tie.Need-loop-less Inv-loop μ-loop
+loop-less c = search needs
+
+loop-again : tie.Need-loop-again Inv-loop μ-loop
+loop-again c = search needs
+
+same-length-3 : tie.Need-same-length-3 Inv-loop μ-loop
+same-length-3 c = search needs
+
+returns-3 : tie.Need-returns-3 Inv-loop μ-loop
+returns-3 c = search needs
+
+pub run-lines-spec : {M : Type 1} → statement M
+run-lines-spec =
+    tie.close
+    (tie.spec
+    Inv-loop
+    μ-loop
+    loop-holds
+    next-byte-requires
+    write-place-requires
+    write-buffer-requires
+    next-byte-requires-2
+    same-length
+    returns
+    run-line-requires
+    same-length-2
+    returns-2
+    sub-left
+    loop-less
+    loop-again
+    same-length-3
+    returns-3)

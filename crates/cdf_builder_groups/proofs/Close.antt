@@ -1,0 +1,103 @@
+-- After a whole group the stream around it is open alone, and admits only a call.
+use Prim.Native.Nat.{ℕ, _<_}
+use mathlib.Core.Path.{_≡_, refl, sym, ap, _∙_}
+use mathlib.Core.Bool.{true, not, _||_}
+use mathlib.Core.List.{List, [], _∷_, map}
+use mathlib.Core.Logic.{inl, inr}
+use native.Mathlib.Omega.{arith}
+use borrow.Author.Tests.{eqb-true}
+use lib.Dec.{T, eqb}
+use lib.ListN.{length}
+use Rattle.cdf_unit_table.specs.Ids.{known, call, erGroup, fileGroup}
+use Rattle.cdf_unit_table.specs.States.{rows, admit, admitsKind, unitOf, streamGroup}
+use Rattle.cdf_unit_table.proofs.Bools.{both}
+use Rattle.cdf_unit_table.specs.Heights.{height}
+use Rattle.cdf_unit_table.proofs.Heights.{kind-lower, height-most}
+use Rattle.cdf_unit_table.proofs.Rows.{from-rows}
+use Rattle.cdf_unit_table.proofs.Tests.{is-true}
+use Rattle.cdf_unit_prefix.specs.Layout.{Layout, idAt}
+use Rattle.cdf_grammar.specs.Published.{Among}
+use Rattle.cdf_grammar.specs.Encoding.{Item}
+use Rattle.cdf_reader_spec.specs.Place.{nested}
+use Rattle.cdf_reader_spec.proofs.Fitting.{Kinds}
+use Rattle.cdf_builder_spec.specs.Place.{BuilderPlace, stands, standing, fits}
+use Rattle.cdf_builder_spec.specs.Requests.{unit, group, joining, joined, refused}
+use Rattle.cdf_builder_spec.specs.Calls.{Reply, callNumber}
+use Rattle.cdf_builder_spec.specs.declared.Begun.{Begun}
+use Rattle.cdf_builder_spec.proofs.Fitting.{fitting}
+use Rattle.cdf_builder_runs.specs.Runs.{answer}
+use Rattle.cdf_builder_runs.proofs.Answers.{answer-called, answer-fits, answer-place}
+use Rattle.cdf_builder_runs.proofs.Passed.{group-rules, group-kind}
+use Rattle.cdf_builder_runs.proofs.Taken.{units-group}
+
+-- A group leads to one state of a stream,
+group-state : (state id : ℕ) → Among id (erGroup ∷ fileGroup ∷ []) → (admit state id ≡ 0 → ⊥) → admit state id ≡ streamGroup
+unfolding admit
+group-state state id kind =
+    from-rows (λ n. (n ≡ 0 → ⊥) → n ≡ streamGroup) (λ r. not (eqb (r .child) erGroup || eqb (r .child) fileGroup) || eqb (r .next) streamGroup) state id
+    (λ no. absurd (no refl)) (λ r t d e no. go (r .child) (r .next) e t kind) rows tt
+  where
+    go : (c n : ℕ) → c ≡ id → T (not (eqb c erGroup || eqb c fileGroup) || eqb n streamGroup) → Among id (erGroup ∷ fileGroup ∷ []) → n ≡ streamGroup
+    go c n e t (inl k) = eqb-true n streamGroup (is-true (eqb n streamGroup) (rw (e, k) at t))
+    go c n e t (inr (inl k)) = eqb-true n streamGroup (is-true (eqb n streamGroup) (rw (e, k) at t))
+
+-- in which it admits a call alone.
+only-call : (id : ℕ) → (id ≡ call → ⊥) → admit streamGroup id ≡ 0
+unfolding admit
+only-call id other =
+    from-rows (λ n. n ≡ 0) (λ r. not (eqb (r .state) streamGroup) || eqb (r .child) call) streamGroup id refl
+    (λ r t d e. absurd (other (sym e ∙ eqb-true (r .child) call (is-true (eqb (r .child) call) (rw d at t))))) rows tt
+
+-- A stream is the highest unit, and so stands in no other.
+top : height (unitOf streamGroup) ≡ 4
+unfolding height unitOf
+top = refl
+
+stream-outer : (w : ℕ) (o : Begun) (os : List Begun) → o .state ≡ streamGroup → Kinds (map (stands w) (o ∷ os)) → os ≡ []
+unfolding nested
+stream-outer w o [] is kinds = refl
+stream-outer w o (p ∷ os) is kinds =
+    let lower = kind-lower (unitOf (p .state)) (unitOf (o .state)) (both (admitsKind (unitOf (p .state)) (unitOf (o .state))) _ kinds .0) in
+    let high : 4 < height (unitOf (p .state)) = rw (is, top) at lower in
+    absurd (omega (arith, height-most (unitOf (p .state)), high))
+
+-- A known unit that no open unit admits gets 7.
+seven : (l : Layout) (os : List Begun) (u : Item) (next : ℕ) → known (u .id) ≡ true → joining (u .id) os ≡ [] → refused l os (unit u) next ≡ 7
+unfolding refused joined
+seven l os u next k none = rw (k, none)
+
+none-joined : (o : Begun) (id : ℕ) → admit (o .state) id ≡ 0 → joining id (o ∷ []) ≡ []
+unfolding joining
+none-joined o id none = rw none
+
+seven-call : (l : Layout) (n : ℕ) (q : BuilderPlace) (u : Item) → fits l n q ≡ true → known (u .id) ≡ true → joining (u .id) (q .units) ≡ [] →
+    callNumber l n q (unit u) ≡ 7
+unfolding callNumber
+seven-call l n q u fit k none = rw fit (seven l (q .units) u _ k none)
+
+module _ (l : Layout) (a : Reply) (g : List ℕ) (zero : answer l a (group g) .number ≡ 0) where
+  abbrev next : Reply
+  next = answer l a (group g)
+
+  next-fits : fits l (length (next .buffer)) (next .place) ≡ true
+  next-fits = answer-fits l a (group g) zero
+
+  -- The stream alone is open.
+  alone : (o : Begun) × (o .state ≡ streamGroup) × (next .place .units ≡ o ∷ [])
+  unfolding standing
+  alone =
+      let (j, checked, is) = group-rules l (a .place .units) g (answer-called l a (group g) zero .0) in
+      let id = idAt l g in
+      let had : Begun = record { state = admit (j .unit .state) id; start = j .unit .start } in
+      let units : next .place .units ≡ had ∷ j .outer =
+      ap (λ (q : BuilderPlace). q .units) (answer-place l a (group g) zero) ∙ units-group l (a .place) (j .unit) (j .outer) g (j .joins) in
+      let state = group-state (j .unit .state) id (group-kind id is) (j .admitted) in
+      let kinds = rw units at (fitting l (length (next .buffer)) (next .place) next-fits .kinds) in
+      (had, state, units ∙ ap (λ os. had ∷ os) (stream-outer (next .place .written) had (j .outer) state kinds))
+
+  pub closed-after : (u : Item) → known (u .id) ≡ true → (u .id ≡ call → ⊥) →
+      callNumber l (length (next .buffer)) (next .place) (unit u) ≡ 7
+  closed-after u k other =
+      let (o, state, units) = alone in
+      seven-call l (length (next .buffer)) (next .place) u next-fits k
+      (rw units (none-joined o (u .id) (rw state (only-call (u .id) other))))

@@ -1,0 +1,156 @@
+// What the builder asks before it writes: where a unit or a group joins, what is wrong with it, and whether there is room for it.
+// A place is taken by its parts, which the builder's struct holds.
+ghost use mathlib.Core.Path.{_≡_};
+ghost use Rattle.cdf_unit_prefix.specs.Layout.{layoutOf};
+ghost use Rattle.cdf_builder_spec.specs.Requests.{joining, completed, joined, advanced};
+ghost use Rattle.cdf_builder_spec.specs.Calls.{room};
+ghost use Rattle.cdf_builder_join.specs.Parts.{units, outside, ownFault, groupId};
+use cdf_builder_spec::Begun;
+use cdf_check::Checked;
+use cdf_check::check_as;
+use cdf_unit_judge::Body;
+use cdf_unit_judge::judge_body;
+use cdf_unit_prefix::Edition;
+use cdf_unit_prefix::limit;
+use cdf_unit_prefix::prefix;
+use cdf_unit_table::ER_GROUP;
+use cdf_unit_table::FILE_GROUP;
+use cdf_unit_table::first_state;
+use cdf_unit_table::is_complete;
+use cdf_unit_table::state_after;
+
+// Where a unit joins: 0, or the number of the rule that is broken; and the units then left open, so many, with `top` the innermost,
+// which has had the unit.
+pub struct Joined {
+    pub number: usize,
+    pub count: usize,
+    pub top: Begun,
+}
+
+// The unit around the innermost of so many.
+fn around(count: usize, o1: Begun, o2: Begun, o3: Begun) -> Begun
+    ensures { λ r. ⌜ r ≡ outside count o1 o2 o3 ⌝ }
+{
+    if count == 2 {
+        return o1;
+    }
+    if count == 3 {
+        return o2;
+    }
+    if count == 4 {
+        return o3;
+    }
+    Begun { state: 0, start: 0 }
+}
+
+// Joins the innermost open unit that admits the id: 7 where none does, 10 where one inside it is incomplete.
+pub fn join(id: usize, count: usize, top: Begun, o1: Begun, o2: Begun, o3: Begun) -> Joined
+    ensures number { λ r. ⌜ r .number ≡ joined (units count top o1 o2 o3) id 0 ⌝ }
+    ensures left { λ r. ⌜ units (r .count) (r .top) o1 o2 o3 ≡ advanced id (joining id (units count top o1 o2 o3)) ⌝ }
+{
+    let mut left = count;
+    let mut inner = top;
+    let mut full = true;
+    while 0 < left {
+        let next = state_after(inner.state, id);
+        if next != 0 {
+            let unit = Begun {
+                state: next,
+                start: inner.start,
+            };
+            if full {
+                return Joined {
+                    number: 0,
+                    count: left,
+                    top: unit,
+                };
+            }
+            return Joined {
+                number: 10,
+                count: left,
+                top: unit,
+            };
+        }
+        let whole = is_complete(inner.state);
+        full = full & whole;
+        inner = around(left, o1, o2, o3);
+        left = left - 1;
+    }
+    Joined {
+        number: 7,
+        count: left,
+        top: inner,
+    }
+}
+
+// Whether every open unit is complete.
+pub fn is_completed(count: usize, top: Begun, o1: Begun, o2: Begun, o3: Begun) -> bool
+    ensures { λ r. ⌜ r ≡ completed (units count top o1 o2 o3) ⌝ }
+{
+    let mut left = count;
+    let mut inner = top;
+    while 0 < left {
+        if !is_complete(inner.state) {
+            return false;
+        }
+        inner = around(left, o1, o2, o3);
+        left = left - 1;
+    }
+    true
+}
+
+// Rules 8 and 9 for a unit that is given: 0 where it breaks neither. One that admits others holds nothing after its name or its
+// numbers.
+pub fn own_fault(id: usize, action: usize, data: &[u8]) -> usize
+    ensures { λ r. ⌜ r ≡ ownFault id action (now («data» .entry)) ⌝ }
+{
+    match judge_body(id, action, data) {
+        Body::Action => 8,
+        Body::Data(_) => 9,
+        Body::Whole(k) => {
+            if first_state(id) == 0 {
+                return 0;
+            }
+            if k == data.len() {
+                return 0;
+            }
+            9
+        }
+    }
+}
+
+// The id of a group that the check accepts, or 0.
+pub fn group_id(edition: Edition, group: &[u8]) -> usize
+    ensures { λ r. ⌜ r ≡ groupId (layoutOf edition) (now (group .entry)) ⌝ }
+{
+    let p = prefix(edition);
+    if group.len() < p {
+        return 0;
+    }
+    let id = group[p - 1] as usize;
+    let is_group = (id == ER_GROUP) | (id == FILE_GROUP);
+    if !is_group {
+        return 0;
+    }
+    match check_as(edition, group) {
+        Checked::Accepted(_) => id,
+        Checked::Refused {
+            number: _,
+            offset: _,
+        } => 0,
+    }
+}
+
+// 13 and 12, for a stream that would have so many bytes, in a buffer of n.
+pub fn room(edition: Edition, n: usize, size: usize) -> usize
+    ensures { λ r. ⌜ r ≡ room (layoutOf edition) n size ⌝ }
+{
+    let most = limit(edition);
+    if most < size {
+        return 13;
+    }
+    if n < size {
+        return 12;
+    }
+    0
+}

@@ -1,0 +1,24 @@
+-- The claims of this crate, proved.
+use mathlib.Core.Path.{_≡_, refl}
+use Rattle.cdf_unit_table.specs.States.{unitOf, rootKind, admitsKind, skipped}
+use Rattle.cdf_reader_spec.specs.Place.{nested, every, positioned}
+use Rattle.cdf_builder_spec.specs.Place.{standing, clauses}
+use Rattle.cdf_builder_spec.specs.NearMisses.{missesFound, missesDue}
+use Rattle.cdf_builder_spec.specs.Claims.{Claims}
+use Rattle.cdf_builder_spec.proofs.Fitting.{at-most-four, fitting}
+use Rattle.cdf_builder_spec.proofs.Replying.{start-kept, call-kept}
+use Rattle.cdf_builder_spec.proofs.Keeping.{start-fits, call-fits}
+
+decides : missesFound ≡ missesDue
+unfolding missesFound clauses standing nested every positioned unitOf rootKind admitsKind skipped
+decides = refl
+
+pub proved : Claims
+proved = record {
+  decides = decides;
+  start-fits = start-fits;
+  call-fits = call-fits;
+  refused-start = start-kept;
+  refused-stays = call-kept;
+  four = λ l n p e. at-most-four p (fitting l n p e .kinds);
+}

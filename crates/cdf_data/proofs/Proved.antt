@@ -1,6 +1,0 @@
--- The claims of this crate, proved.
-use Rattle.cdf_data.specs.Claims.{Claims}
-use Rattle.cdf_data.proofs.Pointing.{offends, mends}
-
-pub proved : Claims
-proved = record { offends = offends; mends = mends }

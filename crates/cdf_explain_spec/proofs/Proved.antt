@@ -1,0 +1,21 @@
+-- The claims of this crate, proved.
+use mathlib.Core.Path.{_≡_, refl}
+use Rattle.cdf_explain_spec.specs.Samples.{samplesFound, samplesDue}
+use Rattle.cdf_explain_spec.specs.Claims.{Claims}
+use Rattle.cdf_explain_spec.proofs.Told.{accepted, refused-same, listed-open, inside, four, refused-start, ten}
+
+samples : samplesFound ≡ samplesDue
+unfolding samplesFound
+samples = refl
+
+pub proved : Claims
+proved = record {
+  samples = samples;
+  accepted = accepted;
+  refused = refused-same;
+  listed = listed-open;
+  inside = inside;
+  four = four;
+  start = refused-start;
+  ten = ten;
+}

@@ -1,0 +1,28 @@
+-- What is claimed of what a lookup answers. The term of this record stands in proofs/Proved.
+use Prim.Native.Nat.{ℕ}
+use mathlib.Core.Path.{_≡_}
+use mathlib.Core.List.{List}
+use mathlib.Core.Logic.{_⊎_}
+use Rattle.cdf_unit_prefix.specs.Layout.{Layout}
+use Rattle.cdf_lookup_spec.specs.Find.{Query, refusal, lookupOf}
+use Rattle.cdf_lookup_spec.specs.Chosen.{Chosen, Lacks, streamOf}
+use Rattle.cdf_lookup_spec.specs.Samples.{samplesFound, samplesDue}
+
+pub record Claims : Type 0 where
+  -- K2 and its damaged forms, and groups of two persons and of one with two keys, computed.
+  pub samples : samplesFound ≡ samplesDue
+  -- With 0 one of the two streams is named,
+  pub named : (l : Layout) (s t : List ℕ) (q : Query) → lookupOf l s t q .number ≡ 0 →
+      (lookupOf l s t q .which ≡ 1) ⊎ (lookupOf l s t q .which ≡ 2)
+  -- and the part is the value, in that stream, of the first field of the name in the first template with the name and the first key.
+  pub value : (l : Layout) (s t : List ℕ) (q : Query) → lookupOf l s t q .number ≡ 0 →
+      Chosen l (streamOf (lookupOf l s t q .which) s t) q (lookupOf l s t q .start) (lookupOf l s t q .size)
+  -- If it names the second stream, the first such template of the first has no such field, if there is such a template;
+  pub second : (l : Layout) (s t : List ℕ) (q : Query) → lookupOf l s t q .which ≡ 2 → Lacks l s q
+  -- on equal streams it never does.
+  pub equal : (l : Layout) (s : List ℕ) (q : Query) → lookupOf l s s q .which ≡ 2 → ⊥
+  -- 15: it is so in both.
+  pub missing : (l : Layout) (s t : List ℕ) (q : Query) → lookupOf l s t q .number ≡ 15 → Lacks l s q × Lacks l t q
+  -- Every refusal names no stream, and has the empty part at the front.
+  pub refused : (l : Layout) (s t : List ℕ) (q : Query) → (lookupOf l s t q .number ≡ 0 → ⊥) →
+      lookupOf l s t q ≡ refusal (lookupOf l s t q .number) (lookupOf l s t q .offset)

@@ -1,0 +1,131 @@
+-- A run of calls, turn by turn: what is told of those done is in the log, and the rest is the run from the place in hand.
+use Prim.Native.Nat.{ℕ, suc, _+_, _*_, _-_, _≤_, _<_}
+use mathlib.Core.Path.{_≡_, refl, sym, ap, _∙_}
+use mathlib.Core.Bool.{true, false}
+use mathlib.Core.List.{List, [], _∷_, _++_, append-assoc, append-nil}
+use native.Mathlib.Numerals.{add-one}
+use native.Mathlib.Omega.{arith}
+use borrow.Rule.Slice.PartMut.{putMid}
+use lib.ListN.{length, take, drop, getD, length-append, length-drop, drop-of-length-le}
+use lib.Seq.{take-at, drop-at, drop-cons, drop-drop, append-snoc}
+use Rattle.cdf_unit_table.proofs.Parts.{rest}
+use Rattle.cdf_unit_prefix.specs.Layout.{layoutOf}
+use Rattle.cdf_unit_prefix.specs.declared.Edition.the-variants.{First}
+use Rattle.cdf_reader_spec.specs.Slots.{openUnits}
+use Rattle.cdf_reader_spec.specs.declared.Call.{Call}
+use Rattle.cdf_reader.specs.View.{view, noPlace}
+use Rattle.cdf_reader_plain.specs.Calls.{Told}
+use Rattle.cdf_reader_plain.specs.Runs.{readerRun}
+use Rattle.cdf_reader_plain.proofs.Equations.{telling, reader-none, reader-on}
+use Rattle.cdf_reader_numbers.specs.Numbers.{placeFrom, numbersOf, replyTo, partTo, Called}
+use Rattle.cdf_reader_c.specs.Replay.{knownCode, callBy, callsOf, ranOf, entryOf, entries, logAfter, entryFrom}
+
+-- One more entry,
+entries-more : (ts : List Told) (t : Told) → entries (ts ++ (t ∷ [])) ≡ entries ts ++ entryOf t
+unfolding entries
+entries-more [] t = append-nil (entryOf t)
+entries-more (u ∷ ts) t = ap (λ es. entryOf u ++ es) (entries-more ts t) ∙ sym (append-assoc (entryOf u) (entries ts) (entryOf t))
+
+-- each of nine numbers.
+length-entries : (ts : List Told) → length (entries ts) ≡ 9 * length ts
+unfolding entries
+length-entries [] = refl
+length-entries (t ∷ ts) = omega (arith, length-entries ts)
+
+-- The calls from a code on.
+pub calls-known : (code : ℕ) (codes : List ℕ) → knownCode code ≡ true → callsOf (code ∷ codes) ≡ callBy code ∷ callsOf codes
+unfolding callsOf
+calls-known code codes e = rw e
+
+calls-unknown : (code : ℕ) (codes : List ℕ) → knownCode code ≡ false → callsOf (code ∷ codes) ≡ []
+unfolding callsOf
+calls-unknown code codes e = rw e
+
+calls-none : callsOf [] ≡ []
+unfolding callsOf
+calls-none = refl
+
+module _ (s codes log₀ : List ℕ) where
+  -- The run of the rest from the place that these numbers are.
+  abbrev ahead : List ℕ → ℕ → List Told
+  ahead place k = readerRun (layoutOf First) s (view (placeFrom place)) (callsOf (drop k codes))
+
+  pub record Running (log place : List ℕ) (k at : ℕ) : Type 0 where
+    pub within : k ≤ length codes
+    pub nine : at ≡ 9 * k
+    pub done : List Told
+    pub count : length done ≡ k
+    pub all : ranOf s codes ≡ done ++ ahead place k
+    pub is : log ≡ logAfter done log₀
+
+  pub long : 9 * length codes ≤ length log₀ → {log place : List ℕ} {k at : ℕ} → Running log place k at → length log ≡ length log₀
+  long room r =
+      ap length (r .is) ∙ simp (length-append, length-drop) (omega (arith, length-entries (r .done), r .count, r .within))
+
+  -- There is room for one more entry.
+  pub fits-more : 9 * length codes ≤ length log₀ → {log place : List ℕ} {k at : ℕ} → Running log place k at → k < length codes →
+      at + 9 ≤ length log
+  fits-more room r less = omega (arith, long room r, r .nine)
+
+  pub begun : Running log₀ (numbersOf noPlace) 0 0
+  unfolding openUnits entries
+  begun = record { within = omega arith; nine = refl; done = []; count = refl; all = refl; is = refl }
+
+  -- A call's entry is what the reader tells of it.
+  entry-is : (c : Call) (place after answer : List ℕ) (number : ℕ) → Called c s place number after answer →
+      entryFrom number answer ≡ entryOf (telling (replyTo c s place) (partTo c s place))
+  entry-is c place after answer number w = rw (w .told, w .answers)
+
+  module _ {log place : List ℕ} {k at : ℕ} (r : Running log place k at) where
+    pub on : k < length codes → knownCode (getD codes k 0) ≡ true → (after answer tail : List ℕ) (number : ℕ) →
+        Called (callBy (getD codes k 0)) s place number after answer →
+        tail ≡ entryFrom number answer ++ drop 9 (take (length log - at) (drop at log)) →
+        Running (putMid at (length log - at) log tail) after (k + 1) (at + 9)
+    on less known after answer tail number w is =
+        let code = getD codes k 0 in
+        let told = telling (replyTo (callBy code) s place) (partTo (callBy code) s place) in
+        let calls : callsOf (drop k codes) ≡ callBy code ∷ callsOf (drop (suc k) codes) =
+        rw (drop-cons codes k 0 less) (calls-known code (drop (suc k) codes) known) in
+        let next : ahead place k ≡ told ∷ ahead after (suc k) =
+        rw calls (reader-on (layoutOf First) s (view (placeFrom place)) (callBy code) (callsOf (drop (suc k) codes))
+        ∙ ap (λ p. told ∷ readerRun (layoutOf First) s p (callsOf (drop (suc k) codes))) (sym (w .moves))) in
+        let front = entries (r .done) in
+        let size : length front ≡ at = omega (arith, length-entries (r .done), r .count, r .nine) in
+        let few : length (drop at log) ≤ length log - at = simp length-drop (omega arith) in
+        let none : drop (length log - at) (drop at log) ≡ [] = drop-of-length-le (drop at log) few in
+        let kept : take at log ≡ front = rw (r .is) (take-at front (drop (9 * length (r .done)) log₀) at size) in
+        let old = drop (9 * length (r .done)) log₀ in
+        let cut : drop 9 (take (length log - at) (drop at log)) ≡ drop (9 * length (r .done) + 9) log₀ =
+        rw (rest at log) (ap (λ l. drop 9 (drop at l)) (r .is) ∙ ap (drop 9) (drop-at front old at size) ∙ drop-drop 9 (9 * length (r .done)) log₀) in
+        let placed : putMid at (length log - at) log tail ≡ front ++ (entryOf told ++ drop (9 * length (r .done) + 9) log₀) =
+        ap (λ l. l ++ (tail ++ drop (length log - at) (drop at log))) kept
+        ∙ ap (λ l. front ++ (tail ++ l)) none
+        ∙ ap (λ l. front ++ l)
+        (append-nil tail ∙ is ∙ ap (λ e. e ++ drop 9 (take (length log - at) (drop at log))) (entry-is (callBy code) place after answer number w)
+        ∙ ap (λ l. entryOf told ++ l) cut) in
+        let more : 9 * length (r .done ++ (told ∷ [])) ≡ 9 * length (r .done) + 9 = simp length-append (omega arith) in
+        record {
+          within = omega arith;
+          nine = omega (arith, r .nine);
+          done = r .done ++ (told ∷ []);
+          count = simp length-append (omega (arith, r .count));
+          all = rw add-one (r .all ∙ ap (λ ts. r .done ++ ts) next ∙ sym (append-snoc (r .done) told (ahead after (suc k))));
+          is =
+              placed ∙ sym (append-assoc front (entryOf told) (drop (9 * length (r .done) + 9) log₀))
+              ∙ ap (λ es. es ++ drop (9 * length (r .done) + 9) log₀) (sym (entries-more (r .done) told))
+              ∙ ap (λ n. entries (r .done ++ (told ∷ [])) ++ drop n log₀) (sym more);
+        }
+
+    -- Where no call follows, all is done.
+    pub finished : callsOf (drop k codes) ≡ [] → (k ≡ length (ranOf s codes)) × (log ≡ logAfter (ranOf s codes) log₀)
+    finished none =
+        let all : ranOf s codes ≡ r .done =
+        r .all ∙ ap (λ cs. r .done ++ readerRun (layoutOf First) s (view (placeFrom place)) cs) none
+        ∙ ap (λ ts. r .done ++ ts) (reader-none (layoutOf First) s (view (placeFrom place))) ∙ append-nil (r .done) in
+        (sym (r .count) ∙ ap length (sym all), r .is ∙ ap (λ ts. logAfter ts log₀) (sym all))
+
+    pub ended-unknown : k < length codes → knownCode (getD codes k 0) ≡ false → callsOf (drop k codes) ≡ []
+    ended-unknown less e = rw (drop-cons codes k 0 less) (calls-unknown (getD codes k 0) (drop (suc k) codes) e)
+
+    pub ended-all : length codes ≤ k → callsOf (drop k codes) ≡ []
+    ended-all h = rw (drop-of-length-le codes h) calls-none

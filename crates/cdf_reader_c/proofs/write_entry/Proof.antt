@@ -1,0 +1,92 @@
+-- Nine stores at the front.
+use native.Mathlib.Omega.{arith}
+use borrow.Author.Needs.{needs}
+use lib.ListN.{length-set}
+use lib.Seq.{sets-eq}
+use Rattle.cdf_reader_c.specs.Replay.{entryFrom}
+use Rattle.cdf_reader_c.proofs.write_entry.Statement.{statement}
+use Rattle.cdf_reader_c.proofs.write_entry.Tie as tie
+
+slice-write-tail : tie.Need-slice-write-tail
+slice-write-tail c = search needs
+
+element-copy-out-tail : tie.Need-element-copy-out-tail
+element-copy-out-tail c = search needs
+
+slice-write-tail-2 : tie.Need-slice-write-tail-2
+slice-write-tail-2 c = simp length-set (omega arith)
+
+element-copy-out-tail-2 : tie.Need-element-copy-out-tail-2
+element-copy-out-tail-2 c = search needs
+
+slice-write-tail-3 : tie.Need-slice-write-tail-3
+slice-write-tail-3 c = simp length-set (omega arith)
+
+element-copy-out-tail-3 : tie.Need-element-copy-out-tail-3
+element-copy-out-tail-3 c = search needs
+
+slice-write-tail-4 : tie.Need-slice-write-tail-4
+slice-write-tail-4 c = simp length-set (omega arith)
+
+element-copy-out-tail-4 : tie.Need-element-copy-out-tail-4
+element-copy-out-tail-4 c = search needs
+
+slice-write-tail-5 : tie.Need-slice-write-tail-5
+slice-write-tail-5 c = simp length-set (omega arith)
+
+element-copy-out-tail-5 : tie.Need-element-copy-out-tail-5
+element-copy-out-tail-5 c = search needs
+
+slice-write-tail-6 : tie.Need-slice-write-tail-6
+slice-write-tail-6 c = simp length-set (omega arith)
+
+element-copy-out-tail-6 : tie.Need-element-copy-out-tail-6
+element-copy-out-tail-6 c = search needs
+
+slice-write-tail-7 : tie.Need-slice-write-tail-7
+slice-write-tail-7 c = simp length-set (omega arith)
+
+element-copy-out-tail-7 : tie.Need-element-copy-out-tail-7
+element-copy-out-tail-7 c = search needs
+
+slice-write-tail-8 : tie.Need-slice-write-tail-8
+slice-write-tail-8 c = simp length-set (omega arith)
+
+element-copy-out-tail-8 : tie.Need-element-copy-out-tail-8
+element-copy-out-tail-8 c = search needs
+
+slice-write-tail-9 : tie.Need-slice-write-tail-9
+slice-write-tail-9 c = simp length-set (omega arith)
+
+same-length : tie.Need-same-length
+same-length c = simp length-set
+
+returns : tie.Need-returns
+returns c =
+    let start = c .before .before .before .before .before .before .before .before in
+    let a = start .args in
+    sets-eq (entryFrom (a .number) (a .answer .now)) (a .tail .now) 0 (start .pre)
+
+pub write-entry-spec : {M : Type 1} → statement M
+write-entry-spec =
+    tie.close
+    (tie.spec
+    slice-write-tail
+    element-copy-out-tail
+    slice-write-tail-2
+    element-copy-out-tail-2
+    slice-write-tail-3
+    element-copy-out-tail-3
+    slice-write-tail-4
+    element-copy-out-tail-4
+    slice-write-tail-5
+    element-copy-out-tail-5
+    slice-write-tail-6
+    element-copy-out-tail-6
+    slice-write-tail-7
+    element-copy-out-tail-7
+    slice-write-tail-8
+    element-copy-out-tail-8
+    slice-write-tail-9
+    same-length
+    returns)

@@ -1,0 +1,103 @@
+-- Places and answers as the numbers that cross to C.
+use Prim.Native.Nat.{ℕ, _-_}
+use mathlib.Core.Path.{_≡_}
+use mathlib.Core.Bool.{Bool, true, false, not, cond, _&&_}
+use mathlib.Core.List.{List, [], _∷_}
+use lib.Dec.{eqb}
+use lib.ListN.{getD}
+use Rattle.cdf_unit_prefix.specs.Layout.{layoutOf}
+use Rattle.cdf_unit_prefix.specs.declared.Edition.the-variants.{First}
+use Rattle.cdf_unit_list.specs.declared.Open.{Open}
+use Rattle.cdf_reader_spec.specs.Calls.{Reply, Part, noPart, callOf, partTaken}
+use Rattle.cdf_reader_spec.specs.declared.Call.{Call}
+use Rattle.cdf_reader_spec.specs.declared.Call.the-variants.{Start, Next, Skip, GetStream, Previous}
+use Rattle.cdf_reader.specs.View.{view, noPlace}
+use Rattle.cdf_reader.specs.Uses.{isStart}
+use Rattle.cdf_reader.specs.declared.Place.{Place}
+
+-- The open unit whose state, start and end stand at these three entries.
+abbrev pub openFrom : List ℕ → ℕ → ℕ → ℕ → Open
+openFrom a i j k = record { state = getD a i 0; start = getD a j 0; end = getD a k 0 }
+
+-- The place that twenty numbers are: the position; how many units are open; the innermost open unit, then the others from the
+-- root inwards; the last unit (id, action, start, own end, end); and whether that one may still be skipped, which any number but 0
+-- says.
+abbrev pub placeFrom : List ℕ → Place
+placeFrom a = record {
+  position = getD a 0 0;
+  count = getD a 1 0;
+  top = openFrom a 2 3 4;
+  o1 = openFrom a 5 6 7;
+  o2 = openFrom a 8 9 10;
+  o3 = openFrom a 11 12 13;
+  last = record { id = getD a 14 0; action = getD a 15 0; start = getD a 16 0; own = getD a 17 0; end = getD a 18 0 };
+  fresh = not (eqb (getD a 19 0) 0);
+}
+
+-- The numbers that are written of a place; the flag as 1 or 0.
+abbrev pub numbersOf : Place → List ℕ
+numbersOf p =
+    p .position
+    ∷ p .count
+    ∷ p .top .state
+    ∷ p .top .start
+    ∷ p .top .end
+    ∷ p .o1 .state
+    ∷ p .o1 .start
+    ∷ p .o1 .end
+    ∷ p .o2 .state
+    ∷ p .o2 .start
+    ∷ p .o2 .end
+    ∷ p .o3 .state
+    ∷ p .o3 .start
+    ∷ p .o3 .end
+    ∷ p .last .id
+    ∷ p .last .action
+    ∷ p .last .start
+    ∷ p .last .own
+    ∷ p .last .end
+    ∷ cond (p .fresh) 1 0
+    ∷ []
+
+-- The eight numbers of an answer: the offset, the unit (id, action, start, own end, end), and the part's start and length.
+abbrev pub answerNumbers : Reply → Part → List ℕ
+answerNumbers r part =
+    r .offset
+    ∷ r .unit .id
+    ∷ r .unit .action
+    ∷ r .unit .start
+    ∷ r .unit .own
+    ∷ r .unit .end
+    ∷ part .start
+    ∷ part .size
+    ∷ []
+
+-- The reply and the part that are due to a call on the place that these numbers are.
+abbrev pub replyTo : Call → List ℕ → List ℕ → Reply
+replyTo c s numbers = callOf (layoutOf First) s (view (placeFrom numbers)) c
+
+abbrev pub partTo : Call → List ℕ → List ℕ → Part
+partTo c s numbers = partTaken (layoutOf First) s (view (placeFrom numbers)) c
+
+-- The place's numbers after a refusal: those that were given, and zeros after a refused start.
+abbrev pub numbersKept : Call → List ℕ → List ℕ
+numbersKept c numbers = cond (isStart c) (numbersOf noPlace) numbers
+
+-- What a call leaves: its number, the answer's numbers, and the place's, which are the new place by its view; a number other than
+-- 0 leaves them as they were.
+pub record Called (c : Call) (s before : List ℕ) (number : ℕ) (after answer : List ℕ) : Type 0 where
+  pub told : number ≡ replyTo c s before .number
+  pub answers : answer ≡ answerNumbers (replyTo c s before) (partTo c s before)
+  pub moves : view (placeFrom after) ≡ replyTo c s before .place
+  pub stays : (number ≡ 0 → ⊥) → after ≡ numbersKept c before
+
+-- Of the calls only GET_STREAM takes a part, the last unit's bytes.
+abbrev pub isTake : Call → Bool
+isTake Start = false
+isTake Next = false
+isTake Skip = false
+isTake GetStream = true
+isTake Previous = false
+
+abbrev pub partBy : Call → ℕ → ℕ → ℕ → Part
+partBy c number from end = cond (isTake c && eqb number 0) (record { start = from; size = end - from }) noPart

@@ -1,0 +1,115 @@
+-- The place past the last unit fits, and so does every place that SKIP, GET_STREAM and PREVIOUS return with 0.
+use Prim.Native.Nat.{ℕ}
+use mathlib.Core.Path.{_≡_, refl}
+use mathlib.Core.Bool.{Bool, true, false, not, _&&_, false≢true}
+use mathlib.Core.List.{List, [], _∷_}
+use native.Mathlib.Omega.{arith}
+use borrow.Author.Tests.{eqb-true, not-false}
+use lib.Dec.{eqb}
+use lib.ListN.{length}
+use Rattle.cdf_unit_table.specs.States.{unitOf, nothing, skipped}
+use Rattle.cdf_unit_table.proofs.Bools.{both, of-cond}
+use Rattle.cdf_unit_prefix.specs.Layout.{Layout}
+use Rattle.cdf_unit_list.specs.Stack.{withState}
+use Rattle.cdf_unit_list.specs.declared.Unit.{Unit}
+use Rattle.cdf_unit_list.specs.declared.Open.{Open}
+use Rattle.cdf_reader_spec.specs.Place.{ReaderPlace, isEmpty, every, isState, atLast, fits}
+use Rattle.cdf_reader_spec.specs.Calls.{Reply, refuse, untouched, skippedTop, passed, passing, skipOf, isGroup, takeOf, previousOf}
+use Rattle.cdf_reader_spec.proofs.Fitting.{fitting, fits-true}
+use Rattle.cdf_reader_spec.proofs.Opened.{kinds-states, chain-clauses}
+use Rattle.cdf_reader_spec.proofs.Replying.{passing-tests, skip-is, take-is, previous-tests}
+use Rattle.cdf_reader_runs.proofs.Around.{Around, lies, position-in, with-state, fitting-held}
+use Rattle.cdf_reader_plain.proofs.Skipped.{skipped-unit}
+
+-- The last unit ends where the innermost open one does, if it is that one.
+last-end : (position : ℕ) (o : Open) (os : List Open) (u : Unit) → atLast position (o ∷ os) u ≡ true → o .end ≡ u .end
+unfolding atLast
+last-end position o os u e =
+    let w = both _ (eqb (o .state) (nothing (unitOf (o .state))) && eqb position (u .own)) e in
+    let v = both (eqb (unitOf (o .state)) (u .id)) _ (w .0) in
+    eqb-true (o .end) (u .end) (both (eqb (o .start) (u .start)) (eqb (o .end) (u .end)) (v .1) .1)
+
+module _ (l : Layout) (n : ℕ) where
+  -- The last unit of a place, where it is the innermost open one.
+  pub record Top (p : ReaderPlace) : Type 0 where
+    pub unit : Open
+    pub around : List Open
+    pub units : p .units ≡ unit ∷ around
+    pub held : Around l n (p .position) (unit ∷ around)
+    pub state : isState (unit .state) ≡ true
+    pub end : unit .end ≡ p .last .end
+
+  -- So it is if the place fits and the flag is on.
+  pub top : (p : ReaderPlace) → fits l n p ≡ true → p .fresh ≡ true → Top p
+  unfolding atLast every
+  top p e on = go (p .units) refl (fitting l n p e .last on)
+    where
+      go : (os : List Open) → p .units ≡ os → atLast (p .position) os (p .last) ≡ true → Top p
+      go [] q last = absurd (false≢true last)
+      go (o ∷ os) q last =
+          let held : Around l n (p .position) (o ∷ os) = rw q at (fitting-held l n p e) in
+          record {
+            unit = o;
+            around = os;
+            units = q;
+            held = held;
+            state = both (isState (o .state)) _ (rw q at (fitting l n p e .states)) .0;
+            end = last-end (p .position) o os (p .last) last;
+          }
+
+  -- Past it the place fits.
+  pub passed-fits : (p : ReaderPlace) → fits l n p ≡ true → p .fresh ≡ true → fits l n (passed p) ≡ true
+  unfolding passed skippedTop withState
+  passed-fits p e on =
+      let f = fitting l n p e in
+      let t = top p e on in
+      let within = lies l (p .position) (t .unit) (t .around) (t .held .position) in
+      let skip = skipped (t .unit .state) in
+      let chained = with-state l n (t .unit) (t .around) skip (skipped-unit (t .unit .state)) (t .held .chained) in
+      let w = chain-clauses l n (withState (t .unit) skip ∷ t .around) chained in
+      rw (t .units)
+      (fits-true l n (record { position = p .last .end; units = withState (t .unit) skip ∷ t .around; last = p .last; fresh = false }) (record {
+        some = omega arith;
+        five = rw (t .units) at (f .five);
+        kinds = w .0;
+        states = kinds-states (withState (t .unit) skip ∷ t .around) (w .0);
+        starts = w .1;
+        ends = w .2;
+        position = position-in l (p .last .end) (withState (t .unit) skip) (t .around) (omega (arith, t .end)) (omega (arith, t .end));
+        own = f .own;
+        end = f .end;
+        within = f .within;
+        last = λ z. absurd (false≢true z);
+      }))
+
+-- The flag is on where the last unit is untouched.
+flag-on : (p : ReaderPlace) → untouched p ≡ true → p .fresh ≡ true
+unfolding untouched
+flag-on p e = both (p .fresh) _ (both (not (isEmpty p)) _ e .1) .0
+
+module _ (l : Layout) (s : List ℕ) where
+  -- If the number is 0, the place fits.
+  abbrev Fits : Reply → Type 0
+  Fits r = r .number ≡ 0 → fits l (length s) (r .place) ≡ true
+
+  -- So it is of what passes an untouched unit,
+  passing-fits : (p : ReaderPlace) (may : Bool) → (may ≡ true → untouched p ≡ true) → Fits (passing l s p may)
+  passing-fits p may only =
+      rw passing-tests
+      (of-cond Fits (not may) (refuse 11 0 p) _ (λ e z. absurd (omega arith))
+      (λ e. of-cond Fits (not (fits l (length s) p)) (refuse 2 0 p) (refuse 0 0 (passed p)) (λ f z. absurd (omega arith))
+      (λ f z. passed-fits l (length s) p (not-false (fits l (length s) p) f) (flag-on p (only (not-false may e))))))
+
+  pub skip-fits : (p : ReaderPlace) → Fits (skipOf l s p)
+  skip-fits p = rw skip-is (passing-fits p (untouched p) (λ e. e))
+
+  pub take-fits : (p : ReaderPlace) → Fits (takeOf l s p)
+  take-fits p = rw take-is (passing-fits p (untouched p && isGroup (p .last .id)) (λ e. both (untouched p) _ e .0))
+
+  -- and of PREVIOUS, which tests it.
+  pub previous-fits : (p : ReaderPlace) → Fits (previousOf l s p)
+  previous-fits p =
+      rw previous-tests
+      (of-cond Fits (isEmpty p) (refuse 11 0 p) _ (λ e z. absurd (omega arith))
+      (λ e. of-cond Fits (not (fits l (length s) p)) (refuse 2 0 p) _ (λ f z. absurd (omega arith))
+      (λ f z. not-false (fits l (length s) p) f)))

@@ -1,0 +1,57 @@
+-- Runs of both readers over the samples K2 and K12 (01, "Samples"): the calls, and each answer written out.
+use Prim.Native.Nat.{ℕ}
+use mathlib.Core.List.{List, [], _∷_}
+use Rattle.cdf_unit_list.specs.declared.Unit.{Unit}
+use Rattle.cdf_reader_spec.specs.Calls.{noUnit}
+use Rattle.cdf_reader_spec.specs.declared.Call.{Call}
+use Rattle.cdf_reader_spec.specs.declared.Call.the-variants.{Start, Next, Skip, GetStream, Previous}
+use Rattle.cdf_reader_plain.specs.Calls.{Told, handing, saying}
+
+abbrev unit : ℕ → ℕ → ℕ → ℕ → ℕ → Unit
+unit id action from own end = record { id = id; action = action; start = from; own = own; end = end }
+
+-- of K2: the group, its template, and the template's key and field
+abbrev group : Unit
+group = unit 4 0 0 6 46
+
+abbrev template : Unit
+template = unit 5 1 6 19 46
+
+abbrev key : Unit
+key = unit 6 0 19 29 29
+
+abbrev field : Unit
+field = unit 8 1 29 43 46
+
+-- Unit by unit to the end, the template skipped, and the group taken; a key, and what was passed, cannot be passed.
+abbrev pub k2Calls : List Call
+k2Calls =
+    Start ∷ Previous ∷ Next ∷ Next ∷ Skip ∷ Next ∷ Next ∷ GetStream
+    ∷ Start ∷ Next ∷ Skip ∷ Skip ∷ Previous ∷ Next
+    ∷ Start ∷ GetStream ∷ Next ∷ Previous ∷ []
+
+abbrev pub k2Answers : List Told
+k2Answers =
+    handing group ∷ handing group ∷ handing template ∷ handing key ∷ saying 11 ∷ handing field ∷ saying 1 ∷ saying 11
+    ∷ handing group ∷ handing template ∷ saying 0 ∷ saying 11 ∷ handing template ∷ saying 1
+    ∷ handing group
+    ∷ record { number = 0; offset = 0; part = record { start = 0; size = 46 }; unit = noUnit }
+    ∷ saying 1 ∷ handing group ∷ []
+
+-- of K12: the stream and its function call, in which there is nothing
+abbrev stream : Unit
+stream = unit 1 0 0 6 18
+
+abbrev call : Unit
+call = unit 2 0 6 18 18
+
+-- The call is skipped past the end, and then the stream; neither is a group.
+abbrev pub k12Calls : List Call
+k12Calls =
+    Start ∷ GetStream ∷ Next ∷ Next ∷ GetStream ∷ Skip ∷ Next ∷ Previous
+    ∷ Start ∷ Skip ∷ Next ∷ Skip ∷ Previous ∷ []
+
+abbrev pub k12Answers : List Told
+k12Answers =
+    handing stream ∷ saying 11 ∷ handing call ∷ saying 1 ∷ saying 11 ∷ saying 0 ∷ saying 1 ∷ handing call
+    ∷ handing stream ∷ saying 0 ∷ saying 1 ∷ saying 11 ∷ handing stream ∷ []

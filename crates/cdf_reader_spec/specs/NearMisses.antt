@@ -1,0 +1,111 @@
+-- Each clause of a place's rule decides: places on the sample K2, each of which breaks one clause alone, and some at the very edge
+-- that keep them all.
+use Prim.Native.Nat.{ℕ}
+use mathlib.Core.Bool.{Bool, true, false}
+use mathlib.Core.List.{List, [], _∷_, map}
+use Rattle.cdf_unit_table.specs.Ids.{erGroup, template}
+use Rattle.cdf_unit_table.specs.States.{erData, callNew, templateNew, templateKeys}
+use Rattle.cdf_unit_prefix.specs.Layout.{layoutOf}
+use Rattle.cdf_unit_prefix.specs.declared.Edition.the-variants.{First}
+use Rattle.cdf_unit_list.specs.declared.Unit.{Unit}
+use Rattle.cdf_unit_list.specs.declared.Open.{Open}
+use Rattle.cdf_reader_spec.specs.Place.{ReaderPlace, clauses}
+
+abbrev unit : ℕ → ℕ → ℕ → ℕ → Unit
+unit id from own end = record { id = id; action = 1; start = from; own = own; end = end }
+
+abbrev opened : ℕ → ℕ → ℕ → Open
+opened state from end = record { state = state; start = from; end = end }
+
+abbrev place : ℕ → List Open → Unit → Bool → ReaderPlace
+place position units last fresh = record { position = position; units = units; last = last; fresh = fresh }
+
+-- K2 has 46 bytes; its group starts at 0, its template at 6 with its own end at 19 and its end at 46. The flag is on just after the
+-- template was handed out; `aside` is a last unit that has nothing to do with the open ones.
+abbrev group : Open
+group = opened erData 0 46
+
+abbrev inner : Open
+inner = opened templateNew 6 46
+
+abbrev aside : Unit
+aside = unit 0 0 6 6
+
+abbrev pub nearMisses : List ReaderPlace
+nearMisses =
+    -- right: just after the template, after its key, and at its end
+    place 19 (inner ∷ group ∷ []) (unit template 6 19 46) true
+    ∷ place 29 (opened templateKeys 6 46 ∷ group ∷ []) aside false
+    ∷ place 46 (opened templateKeys 6 46 ∷ group ∷ []) (unit 0 40 46 46) false
+    -- the kinds: a root that is none, a kind that is not admitted
+    ∷ place 19 (opened templateNew 0 46 ∷ []) aside false
+    ∷ place 19 (opened callNew 6 46 ∷ group ∷ []) aside false
+    -- the starts: not at 0, less than a prefix further
+    ∷ place 19 (inner ∷ opened erData 1 46 ∷ []) aside false
+    ∷ place 19 (opened templateNew 5 46 ∷ group ∷ []) aside false
+    -- the ends: not the last byte, after the unit outside
+    ∷ place 19 (opened templateNew 6 45 ∷ opened erData 0 45 ∷ []) aside false
+    ∷ place 19 (opened templateNew 6 47 ∷ group ∷ []) aside false
+    -- the position: in the prefix of the innermost, past its end
+    ∷ place 11 (inner ∷ group ∷ []) aside false
+    ∷ place 47 (inner ∷ group ∷ []) aside false
+    -- the last unit: own end in the prefix, end before own end, end past the bytes
+    ∷ place 19 (inner ∷ group ∷ []) (unit 0 0 5 6) false
+    ∷ place 19 (inner ∷ group ∷ []) (unit 0 0 7 6) false
+    ∷ place 19 (inner ∷ group ∷ []) (unit 0 0 6 47) false
+    -- the flag: another id, another start, another end, something had, a position that is not the own end
+    ∷ place 19 (inner ∷ group ∷ []) (unit erGroup 6 19 46) true
+    ∷ place 19 (inner ∷ group ∷ []) (unit template 7 19 46) true
+    ∷ place 19 (inner ∷ group ∷ []) (unit template 6 19 45) true
+    ∷ place 19 (opened templateKeys 6 46 ∷ group ∷ []) (unit template 6 19 46) true
+    ∷ place 20 (inner ∷ group ∷ []) (unit template 6 19 46) true
+    ∷ []
+
+-- Of the eight clauses these hold, in the order of `clauses`: how many are open; kinds; states; starts; ends; position; last; flag.
+abbrev keptAll : List Bool
+keptAll = true ∷ true ∷ true ∷ true ∷ true ∷ true ∷ true ∷ true ∷ []
+
+abbrev noKinds : List Bool
+noKinds = true ∷ false ∷ true ∷ true ∷ true ∷ true ∷ true ∷ true ∷ []
+
+abbrev noStarts : List Bool
+noStarts = true ∷ true ∷ true ∷ false ∷ true ∷ true ∷ true ∷ true ∷ []
+
+abbrev noEnds : List Bool
+noEnds = true ∷ true ∷ true ∷ true ∷ false ∷ true ∷ true ∷ true ∷ []
+
+abbrev noPosition : List Bool
+noPosition = true ∷ true ∷ true ∷ true ∷ true ∷ false ∷ true ∷ true ∷ []
+
+abbrev noLast : List Bool
+noLast = true ∷ true ∷ true ∷ true ∷ true ∷ true ∷ false ∷ true ∷ []
+
+abbrev noFlag : List Bool
+noFlag = true ∷ true ∷ true ∷ true ∷ true ∷ true ∷ true ∷ false ∷ []
+
+abbrev pub missesDue : List (List Bool)
+missesDue =
+    keptAll
+    ∷ keptAll
+    ∷ keptAll
+    ∷ noKinds
+    ∷ noKinds
+    ∷ noStarts
+    ∷ noStarts
+    ∷ noEnds
+    ∷ noEnds
+    ∷ noPosition
+    ∷ noPosition
+    ∷ noLast
+    ∷ noLast
+    ∷ noLast
+    ∷ noFlag
+    ∷ noFlag
+    ∷ noFlag
+    ∷ noFlag
+    ∷ noFlag
+    ∷ []
+
+unfoldable pub missesFound : List (List Bool)
+unfolding clauses
+missesFound = map (clauses (layoutOf First) 46) nearMisses

@@ -1,0 +1,39 @@
+// A start and nexts to the end of a stream, each next given the place that the last call returned, folded into one number: what the
+// benchmark of the reader runs.
+ghost use mathlib.Core.Path.{_≡_};
+ghost use Rattle.cdf_unit_prefix.specs.Layout.{layoutOf};
+ghost use Rattle.cdf_unit_prefix.specs.declared.Edition.the-variants.{First};
+ghost use Rattle.cdf_reader_walk.specs.Fold.{mixOf, mixEnd, walkOf};
+use cdf_reader::first;
+use cdf_unit_list::Unit;
+
+// One more unit.
+fn mix(h: u64, u: Unit) -> u64
+    ensures { λ r. ⌜ r ≡ mixOf h u ⌝ }
+{
+    let turned = (h << 5) | (h >> 59);
+    let bounds = (u.start as u64) ^ ((u.own as u64) << 16) ^ ((u.end as u64) << 32);
+    turned ^ bounds ^ ((u.id as u64) << 48) ^ ((u.action as u64) << 56)
+}
+
+// The number that ends the run, and its offset.
+fn mix_end(h: u64, number: usize, offset: usize) -> u64
+    ensures { λ r. ⌜ r ≡ mixEnd h number offset ⌝ }
+{
+    h ^ ((number as u64) << 57) ^ ((offset as u64) << 3)
+}
+
+#[no_mangle]
+pub extern "C" fn cdf_walk(s: &[u8]) -> u64
+    ensures { λ r. ⌜ r ≡ walkOf (layoutOf First) (now (s .entry)) ⌝ }
+{
+    let mut a = first(s);
+    let mut h: u64 = 0;
+    while a.number == 0 {
+        let unit = a.unit;
+        h = mix(h, unit);
+        let p = a.place;
+        a = p.next(s);
+    }
+    mix_end(h, a.number, a.offset)
+}

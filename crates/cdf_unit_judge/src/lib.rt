@@ -1,0 +1,134 @@
+// The rules 3 to 9 for the unit at the front of what the enclosing unit has left.
+ghost use mathlib.Core.Path.{_≡_};
+ghost use mathlib.Core.Bool.{true, false};
+ghost use Rattle.cdf_unit_prefix.specs.Layout.{layoutOf};
+ghost use Rattle.cdf_unit_judge.specs.Judge.{bodyOf, judgeOf};
+use cdf_unit_data::Own;
+use cdf_unit_data::own_data;
+use cdf_unit_prefix::Edition;
+use cdf_unit_prefix::Header;
+use cdf_unit_prefix::head;
+use cdf_unit_prefix::prefix;
+use cdf_unit_table::NONE;
+use cdf_unit_table::action_allowed;
+use cdf_unit_table::first_state;
+use cdf_unit_table::is_root_kind;
+use cdf_unit_table::state_after;
+
+// Rules 8 and 9: the action is not allowed, this byte of the own data is the first that breaks its rule, or the name or
+// fixed numbers take so many bytes.
+pub enum Body {
+    Action,
+    Data(usize),
+    Whole(usize),
+}
+
+// Rules 3 to 9: a fault's number and its offset from the unit's start, or the unit: lengths count from its start, and `state`
+// is the enclosing unit's once it has had this one. Nothing encloses a root: for that, `state` is its own.
+pub enum Judged {
+    Fault {
+        number: usize,
+        offset: usize,
+    },
+    Found {
+        id: usize,
+        action: usize,
+        own: usize,
+        length: usize,
+        state: usize,
+    },
+}
+
+// Rules 8 and 9, on the bytes after the prefix.
+pub fn judge_body(id: usize, action: usize, s: &[u8]) -> Body
+    ensures { λ r. ⌜ r ≡ bodyOf id action (now (s .entry)) ⌝ }
+{
+    if !action_allowed(id, action) {
+        return Body::Action;
+    }
+    match own_data(id, s) {
+        Own::Taken(k) => Body::Whole(k),
+        Own::Broken(k) => Body::Data(k),
+    }
+}
+
+// Rules 3 to 9 for a unit nested in one that is in `state`.
+pub fn judge(edition: Edition, state: usize, s: &[u8]) -> Judged
+    ensures { λ r. ⌜ r ≡ judgeOf (layoutOf edition) false state (now (s .entry)) ⌝ }
+{
+    match head(edition, false, s) {
+        Header::Stop(n) => Judged::Fault {
+            number: n,
+            offset: 0,
+        },
+        Header::Prefix { id, action, length } => {
+            let next = state_after(state, id);
+            if next == 0 {
+                return Judged::Fault {
+                    number: 7,
+                    offset: 0,
+                };
+            }
+            let p = prefix(edition);
+            match judge_body(id, action, &s[p..length]) {
+                Body::Action => Judged::Fault {
+                    number: 8,
+                    offset: 0,
+                },
+                Body::Data(k) => {
+                    let bad = p + k;
+                    Judged::Fault {
+                        number: 9,
+                        offset: bad,
+                    }
+                }
+                Body::Whole(k) => {
+                    let own = p + k;
+                    Judged::Found {
+                        id,
+                        action,
+                        own,
+                        length,
+                        state: next,
+                    }
+                }
+            }
+        }
+    }
+}
+
+// The same for a stream's root. It has no own data, and its action is none; so `judge` is left with few callers, and is
+// compiled into each.
+pub fn judge_root(edition: Edition, s: &[u8]) -> Judged
+    ensures { λ r. ⌜ r ≡ judgeOf (layoutOf edition) true 0 (now (s .entry)) ⌝ }
+{
+    match head(edition, true, s) {
+        Header::Stop(n) => Judged::Fault {
+            number: n,
+            offset: 0,
+        },
+        Header::Prefix { id, action, length } => {
+            if !is_root_kind(id) {
+                return Judged::Fault {
+                    number: 7,
+                    offset: 0,
+                };
+            }
+            if action != NONE {
+                return Judged::Fault {
+                    number: 8,
+                    offset: 0,
+                };
+            }
+            let own = prefix(edition);
+            let state = first_state(id);
+            Judged::Found {
+                id,
+                action,
+                own,
+                length,
+                state,
+            }
+        }
+    }
+}

@@ -1,0 +1,72 @@
+-- The open units as a stack, the innermost first, and one step: what a reader keeps instead of the units listed so far.
+-- `step` is what NEXT does, and it stands here for the reader's contract, so this file belongs to the trusted reading. The
+-- claims are about the unit list; a law (proofs/Agreement) says that the steps give that list.
+use Prim.Native.Nat.{ℕ, zero, suc, _+_, _-_}
+use mathlib.Core.Bool.{false, cond}
+use mathlib.Core.List.{List, [], _∷_, reverse}
+use lib.ListN.{length, take, drop}
+use lib.Dec.{eqb}
+use Rattle.cdf_unit_prefix.specs.Layout.{Layout}
+use Rattle.cdf_unit_table.specs.States.{opens, nothing, complete}
+use Rattle.cdf_unit_judge.specs.Judge.{judgeOf}
+use Rattle.cdf_unit_list.specs.Units.{after, Listing, unfinished, ended, fault}
+use Rattle.cdf_unit_list.specs.declared.Unit.{Unit}
+use Rattle.cdf_unit_list.specs.declared.Open.{Open}
+use Rattle.cdf_unit_judge.specs.declared.Judged.{Judged}
+use Rattle.cdf_unit_judge.specs.declared.Judged.the-variants.{Fault, Found}
+
+-- What closing the units that end at a position leaves: the start of the first incomplete one, or those still open.
+pub data Closing : Type 0 where
+  incomplete : ℕ → Closing
+  left : List Open → Closing
+
+unfoldable pub close : List Open → ℕ → Closing
+unfolding complete
+close [] pos = left []
+close (o ∷ os) pos =
+    cond (eqb (o .end) pos) (cond (complete (o .state)) (close os pos) (incomplete (o .start))) (left (o ∷ os))
+
+pub data Step : Type 0 where
+  done : Step
+  refused : ℕ → ℕ → Step
+  -- a unit, the units open after it, and the next position
+  found : Unit → List Open → ℕ → Step
+
+unfoldable pub opened : Unit → List Open → List Open
+unfolding opens
+opened u os =
+    cond (opens (u .id)) (record { state = nothing (u .id); start = u .start; end = u .end } ∷ os) os
+
+-- The unit that was judged at a position, given what is open for each state that the enclosing unit may then be in.
+unfoldable pub entered : ℕ → (ℕ → List Open) → Judged → Step
+unfolding opened after
+entered pos around (Fault n k) = refused n (pos + k)
+entered pos around (Found id action k len state) =
+    let u : Unit = record { id = id; action = action; start = pos; own = pos + k; end = pos + len } in
+    found u (opened u (around state)) (after u)
+
+unfoldable pub withState : Open → ℕ → Open
+withState o state = record { state = state; start = o .start; end = o .end }
+
+unfoldable pub stepIn : Layout → List ℕ → ℕ → Closing → Step
+unfolding entered withState judgeOf
+stepIn l s pos (incomplete at) = refused 10 at
+stepIn l s pos (left []) = done
+stepIn l s pos (left (o ∷ os)) =
+    entered pos (λ state. withState o state ∷ os) (judgeOf l false (o .state) (take (o .end - pos) (drop pos s)))
+
+unfoldable pub step : Layout → List ℕ → List Open → ℕ → Step
+unfolding stepIn close
+step l s os pos = stepIn l s pos (close os pos)
+
+-- From a step and the units so far, the last one first.
+unfoldable pub stepsFrom : ℕ → Layout → List ℕ → Step → List Unit → Listing
+unfolding step
+stepsFrom zero l s x us = record { units = reverse us; end = unfinished }
+stepsFrom (suc f) l s done us = record { units = reverse us; end = ended }
+stepsFrom (suc f) l s (refused n at) us = record { units = reverse us; end = fault n at }
+stepsFrom (suc f) l s (found u os pos) us = stepsFrom f l s (step l s os pos) (u ∷ us)
+
+unfoldable pub steps : Layout → List ℕ → Judged → Listing
+unfolding stepsFrom entered
+steps l s first = stepsFrom (suc (length s)) l s (entered 0 (λ state. []) first) []
