@@ -1,5 +1,5 @@
-// Runs the builder on the cases that its input lists, and writes a line for each. `docs/model/run build-inputs` writes the input, and
-// `docs/model/run build-answers` the output that is expected.
+// Runs the builder on the cases that its input lists, and writes a line for each. `model/run build-inputs` writes the input, and
+// `model/run build-answers` the output that is expected.
 //
 // A case is a line with its label and the size of its buffer, a line for each call, and a line with a dot. It begins with the empty
 // place and a buffer of EE bytes. The calls, and a place to go on with:

@@ -2,8 +2,8 @@
 // that the check gives and the count of units or the offset that goes with it.
 //
 // A line of the input is a label, a colon, and the stream's bytes in hexadecimal, where *DDDDCCCC
-// stands for CCCC bytes, each like the one DDDD before it. `docs/model/run inputs` writes the
-// input, and `docs/model/run answers` the output that is expected.
+// stands for CCCC bytes, each like the one DDDD before it. `model/run inputs` writes the
+// input, and `model/run answers` the output that is expected.
 //
 // A proved loop has to end, and nothing says that the input does. So each loop counts its turns
 // down, from a number that no run uses up.

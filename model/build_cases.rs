@@ -13,8 +13,8 @@ use crate::rules::{is_root, kind};
 use crate::samples::{changed, K1, K12, K2};
 use Step::{Add, Finish, Start};
 
-const FAMILY: &[u8] = include_bytes!("../../samples/family.cdf");
-const FAMILY_CALL: &[u8] = include_bytes!("../../samples/family-call.cdf");
+const FAMILY: &[u8] = include_bytes!("../samples/family.cdf");
+const FAMILY_CALL: &[u8] = include_bytes!("../samples/family-call.cdf");
 
 fn next(id: u64, action: u64, data: &[u8]) -> Step {
     Step::Next(Request { id, action, data: data.to_vec() })
