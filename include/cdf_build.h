@@ -4,29 +4,26 @@
  *
  *     uint8_t buffer[1000];
  *     uint64_t place[CDF_BUILD_PLACE_NUMBERS], length[1];
- *     cdf_build_first(buffer, sizeof buffer, 4, place);
+ *     cdf_build_first(buffer, sizeof buffer, CDF_ID_ER_GROUP, place);
  *     cdf_build_next(buffer, sizeof buffer, place, id, action, data, data_length);
  *     ...
  *     cdf_build_finish(buffer, sizeof buffer, place, length);
  *
- * It keeps nothing between calls and allocates nothing: all it knows is in the place, which may be copied, stored and sent.
+ * It keeps nothing between calls and allocates nothing: all it knows is in the place, which may be copied, stored and sent, but does not
+ * outlive its version (CDF_VERSION).
  *
  * Each function returns a number, and nothing else. 0 is done. Any other number is a refusal, which leaves the place and every byte of
  * the buffer as they were; only a refused cdf_build_first writes a place, one of zeros. The functions answer for any bytes and any
  * numbers: a place that none of them wrote is used if it could belong to the buffer, and else gets 2. No call reads the buffer's bytes.
- * So what is built is a stream if all calls from cdf_build_first on had the place that the last one left, and the same buffer, which
- * nothing else wrote in between.
+ * So what is built is a stream if cdf_build_finish answered 0, all calls from cdf_build_first on had the place that the last one left,
+ * and the same buffer, and nothing else wrote to it in between.
  *
- * What the caller must keep, for every function:
- * - a pointer with a length is valid for that many bytes: to read, or to write where it is not const; it is null only with length 0;
- * - place and answer point to as many numbers as their declaration says, aligned as uint64_t, and are never null;
- * - what a function writes (a pointer that is not const) overlaps nothing else that is given to the same call.
+ * What the caller must keep, and what of threads, is said in cdf.h.
  */
 #ifndef CDF_BUILD_H
 #define CDF_BUILD_H
 
-#include <stddef.h>
-#include <stdint.h>
+#include "cdf_numbers.h"
 
 #ifdef __cplusplus
 extern "C" {
@@ -34,14 +31,14 @@ extern "C" {
 
 /* The builder's place, 10 numbers that the caller holds. Copy it to come back to it, with the buffer as it then was. What stands in
  * slots that the count does not reach is free: it means nothing, and after a call it may be anything. A state tells which unit it is
- * and what it has had; the numbers of states may be others in another version. All zeros is the empty place, which never fits. */
+ * and what it has had. All zeros is the empty place, which never fits. */
 #define CDF_BUILD_PLACE_NUMBERS 10
 #define CDF_BUILD_PLACE_WRITTEN 0   /* bytes written: the next unit goes there */
 #define CDF_BUILD_PLACE_COUNT 1     /* how many units are open, the root among them: 1 to 4 while a stream is built */
 #define CDF_BUILD_PLACE_INNERMOST 2 /* state and start of the innermost open unit */
 #define CDF_BUILD_PLACE_OUTER 4     /* the same of the others, from the root inwards: three times two numbers */
 
-/* Starts a stream: writes the prefix of a root and its place. root is 1 (EDMM stream), 4 (E/R group) or 13 (file group).
+/* Starts a stream: writes the prefix of a root and its place. root is CDF_ID_STREAM, CDF_ID_ER_GROUP or CDF_ID_FILE_GROUP.
  *     0   done: 6 bytes are written and the root is open
  *     6   root is no unit's id
  *     7   root is a unit's id, but no root's
@@ -64,7 +61,7 @@ uint64_t cdf_build_first(uint8_t *buffer, size_t buffer_length, uint64_t root, u
 uint64_t cdf_build_next(uint8_t *buffer, size_t buffer_length, uint64_t place[CDF_BUILD_PLACE_NUMBERS], uint64_t id, uint64_t action,
                         const uint8_t *data, size_t data_length);
 
-/* Adds a whole group, bytes that are a stream of their own with the root 4 or 13, as the next unit. It is closed at once.
+/* Adds a whole group, bytes that the check accepts as a stream with the root 4 or 13, as the next unit. It is closed at once.
  *     0   done: the group's bytes are written, the lengths of all open units are right, and the place is the new one
  *     2   the place could not belong to a buffer of this length
  *     14  group is no stream that the check accepts, or its root is not 4 or 13
@@ -78,7 +75,7 @@ uint64_t cdf_build_add_stream(uint8_t *buffer, size_t buffer_length, uint64_t pl
  *     10  an open unit is incomplete; answer[0] is 0 */
 uint64_t cdf_build_finish(const uint8_t *buffer, size_t buffer_length, const uint64_t place[CDF_BUILD_PLACE_NUMBERS], uint64_t answer[1]);
 
-/* As many bytes as the listing of any stream takes, or of any other bytes up to 65,536. */
+/* Room for the listing of any stream, or of any other bytes up to 65,536. */
 #define CDF_LISTING_ROOM 207527
 
 /* Writes the listing of a stream as text at the front of a buffer: a line for each unit with its offset, depth, id, action and length,

@@ -8,6 +8,8 @@ pub mod builder;
 pub mod cases;
 pub mod check;
 pub mod explain;
+pub mod header;
+mod header_names;
 pub mod lookup;
 pub mod lookup_samples;
 mod named;

@@ -11,12 +11,15 @@
 //!   model build-inputs the stored cases of the builder, as cdf_builder_cases reads them
 //!   model build-answers
 //!                      what that program is to write
+//!   model header-calls calls through the headers for C, as gate/header/main.c reads them
+//!   model header-answers
+//!                      what that program is to write
 
 use cdf_model::build_cases::build_cases;
 use cdf_model::build_run::BuildCase;
 use cdf_model::explain::{explain, Explanation};
 use cdf_model::lookup::{lookup, Asked, Found};
-use cdf_model::{cases, check, samples};
+use cdf_model::{cases, check, header, samples};
 use std::fs::File;
 use std::io::{self, Read, Write};
 
@@ -76,6 +79,8 @@ fn main() -> io::Result<()> {
         ["answers"] => lines(|bytes| " ".to_string() + &answer(bytes)),
         ["build-inputs"] => build_cases().iter().map(BuildCase::input).collect(),
         ["build-answers"] => build_cases().iter().map(BuildCase::answer).collect(),
+        ["header-calls"] => header::lines().calls,
+        ["header-answers"] => header::lines().owed,
         _ => usage(),
     };
     io::stdout().write_all(text.as_bytes())
@@ -83,7 +88,7 @@ fn main() -> io::Result<()> {
 
 fn usage() -> ! {
     eprintln!("usage: model check FILE | explain FILE | list FILE | lookup FIRST SECOND TEMPLATE KEY_ID KEY FIELD");
-    eprintln!("       model inputs | answers | build-inputs | build-answers");
+    eprintln!("       model inputs | answers | build-inputs | build-answers | header-calls | header-answers");
     std::process::exit(2);
 }
 

@@ -47,7 +47,7 @@ const STATES: [(u64, Had); 30] = [
 ];
 
 /// Id 0 where the number is no state.
-fn state(number: u64) -> (u64, Had) {
+pub fn state(number: u64) -> (u64, Had) {
     match number {
         1..=30 => STATES[number as usize - 1],
         _ => (0, Had::Nothing),

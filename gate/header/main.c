@@ -1,0 +1,288 @@
+/* Calls every function of include/ as the lines of standard input say (model/header.rs writes them), and writes a line for each: what it
+ * returned and all that it wrote, in the names of the headers' constants. run compares that with what the model says. */
+#include "cdf.h"
+#include "constants.h"
+
+/* An array of the headers' length between numbers that nobody may write. */
+#define GUARD 0x5AFE5AFE5AFE5AFEu
+#define UNWRITTEN 0xDEADDEADDEADDEADu
+#define GUARDED(name, length) static struct { uint64_t before, is[length], after; } name
+GUARDED(place, CDF_PLACE_NUMBERS);
+GUARDED(answer, CDF_ANSWER_NUMBERS);
+GUARDED(one, 1);
+GUARDED(explanation, CDF_EXPLAIN_NUMBERS);
+GUARDED(found, CDF_LOOKUP_NUMBERS);
+GUARDED(building, CDF_BUILD_PLACE_NUMBERS);
+#define SET(name) (name.before = name.after = GUARD)
+#define KEPT(name) (name.before == GUARD && name.after == GUARD)
+#define COUNT(array) (sizeof(array) / sizeof((array)[0]))
+#define CLEAR(array) clear(array, COUNT(array))
+
+static void clear(uint64_t *array, size_t count) {
+    while (count) array[--count] = UNWRITTEN;
+}
+
+typedef struct {
+    uint8_t *is; /* null where there are none */
+    size_t length;
+} bytes;
+static bytes stream, buffer;
+
+static bytes many(size_t length, int byte) {
+    bytes made = {NULL, length};
+    if (length && !(made.is = (uint8_t *)malloc(length))) stop("no", "memory");
+    if (length) memset(made.is, byte, length);
+    return made;
+}
+
+/* Hexadecimal digits; none is '-'. */
+static bytes in_hex(void) {
+    const char *digits = word();
+    bytes made = many(*digits == '-' ? 0 : strlen(digits) / 2, 0);
+    for (size_t i = 0; i < made.length; i++) {
+        char pair[3] = {digits[2 * i], digits[2 * i + 1], 0};
+        made.is[i] = (uint8_t)strtoul(pair, NULL, 16);
+    }
+    return made;
+}
+
+static void tell_numbers(const uint64_t *from, size_t count) {
+    for (size_t i = 0; i < count; i++) printf(",%llu", (number)from[i]);
+}
+
+static void tell_sum(const uint8_t *from, size_t length) {
+    number sum = length;
+    for (size_t i = 0; i < length; i++) sum = sum * 31 + from[i];
+    printf(" sum=%llu", sum);
+}
+
+static int done;
+
+static void returned(const char *function, uint64_t is) {
+    if (!(KEPT(place) && KEPT(answer) && KEPT(one) && KEPT(explanation) && KEPT(found) && KEPT(building)))
+        stop("written outside an array:", function);
+    printf("%s ", function);
+    tell(NUMBERS, is);
+    done = is == CDF_OK;
+}
+
+static void tell_answer(void) {
+    TELL(answer.is, CDF_ANSWER_OFFSET);
+    TELL_AS(IDS, answer.is, CDF_ANSWER_ID);
+    TELL_AS(ACTIONS, answer.is, CDF_ANSWER_ACTION);
+    TELL(answer.is, CDF_ANSWER_START);
+    TELL(answer.is, CDF_ANSWER_OWN_END);
+    TELL(answer.is, CDF_ANSWER_END);
+    TELL(answer.is, CDF_ANSWER_PART_START);
+    TELL(answer.is, CDF_ANSWER_PART_LENGTH);
+}
+
+/* A place is told as one of zeros, after a refusal as one that stays, and else by its numbers as far as its count reaches. */
+static int tell_same(const uint64_t *now, const uint64_t *before, size_t count) {
+    size_t zeros = 0;
+    while (zeros < count && !now[zeros]) zeros++;
+    if (zeros == count) return puts(" zeros"), 1;
+    if (done) return 0;
+    return puts(memcmp(now, before, count * sizeof *now) ? " changed" : " stays"), 1;
+}
+
+static void tell_place(const uint64_t *before) {
+    const uint64_t *p = place.is;
+    size_t at;
+    if (tell_same(p, before, CDF_PLACE_NUMBERS)) return;
+    TELL(p, CDF_PLACE_POSITION);
+    TELL(p, CDF_PLACE_COUNT);
+    TELL_AS(STATES, p, CDF_PLACE_INNERMOST);
+    tell_numbers(p + CDF_PLACE_INNERMOST + 1, 2);
+    at = FROM(CDF_PLACE_OUTER);
+    for (uint64_t i = 1; i < p[CDF_PLACE_COUNT]; i++, at += 3) {
+        tell(STATES, p[at]);
+        tell_numbers(p + at + 1, 2);
+    }
+    at = FROM(CDF_PLACE_LAST);
+    tell(IDS, p[at]);
+    putchar(',');
+    tell(ACTIONS, p[at + 1]);
+    tell_numbers(p + at + 2, 3);
+    printf(" %s\n", p[CDF_PLACE_FLAG] ? "CDF_PLACE_FLAG" : "-");
+}
+
+static void tell_building(const uint64_t *before) {
+    const uint64_t *p = building.is;
+    size_t at;
+    tell_sum(buffer.is, buffer.length);
+    if (tell_same(p, before, CDF_BUILD_PLACE_NUMBERS)) return;
+    TELL(p, CDF_BUILD_PLACE_WRITTEN);
+    TELL(p, CDF_BUILD_PLACE_COUNT);
+    TELL_AS(STATES, p, CDF_BUILD_PLACE_INNERMOST);
+    tell_numbers(p + CDF_BUILD_PLACE_INNERMOST + 1, 1);
+    at = FROM(CDF_BUILD_PLACE_OUTER);
+    for (uint64_t i = 1; i < p[CDF_BUILD_PLACE_COUNT]; i++, at += 2) {
+        tell(STATES, p[at]);
+        tell_numbers(p + at + 1, 1);
+    }
+    putchar('\n');
+}
+
+static void explain(void) {
+    const uint64_t *e = explanation.is;
+    size_t at;
+    returned("cdf_explain", cdf_explain(stream.is, stream.length, explanation.is));
+    TELL(e, CDF_EXPLAIN_OFFSET);
+    TELL(e, CDF_EXPLAIN_COUNT);
+    at = FROM(CDF_EXPLAIN_UNITS);
+    for (size_t end = at + 8; at < end; at += 2) {
+        tell(IDS, e[at]);
+        printf(",%llu,", (number)e[at + 1]);
+    }
+    TELL(e, CDF_EXPLAIN_CHOICES);
+    at = FROM(CDF_EXPLAIN_IDS);
+    for (size_t end = at + 14; at < end; at++) {
+        tell(IDS, e[at]);
+        putchar(',');
+    }
+    putchar('\n');
+}
+
+static void look_up(void) {
+    bytes first = in_hex(), second = in_hex(), name = in_hex();
+    uint64_t key_id = value(IDS, word());
+    bytes key = in_hex(), field = in_hex();
+    returned("cdf_lookup", cdf_lookup(first.is, first.length, second.is, second.length, name.is, name.length, key_id, key.is, key.length,
+                                      field.is, field.length, found.is));
+    TELL(found.is, CDF_LOOKUP_OFFSET);
+    TELL(found.is, CDF_LOOKUP_WHICH);
+    TELL(found.is, CDF_LOOKUP_START);
+    TELL(found.is, CDF_LOOKUP_LENGTH);
+    putchar('\n');
+    free(first.is), free(second.is), free(name.is), free(key.is), free(field.is);
+}
+
+static void list(void) {
+    bytes text = many(value(LENGTHS, word()), 0xEE);
+    returned("cdf_listing", cdf_listing(stream.is, stream.length, text.is, text.length, one.is));
+    printf(" %llu", (number)one.is[0]);
+    tell_sum(text.is, text.length);
+    putchar('\n');
+    free(text.is);
+}
+
+/* A log for so many entries and one number more, and codes: constants or numbers. */
+static void replay(void) {
+    size_t numbers = CDF_ENTRY_NUMBERS * value(LENGTHS, word());
+    size_t count = value(LENGTHS, word());
+    bytes calls = many(count, 0);
+    uint64_t *log = (uint64_t *)malloc((numbers + 1) * sizeof *log);
+    if (!log) stop("no", "memory");
+    clear(log, numbers + 1);
+    for (size_t i = 0; i < count; i++) calls.is[i] = (uint8_t)value(CALLS, word());
+    returned("cdf_replay", cdf_replay(stream.is, stream.length, calls.is, calls.length, numbers ? log : NULL, numbers, one.is));
+    printf(" %llu", (number)one.is[0]);
+    for (uint64_t i = 0; i < one.is[0]; i++) {
+        const uint64_t *entry = log + CDF_ENTRY_NUMBERS * i;
+        TELL_AS(NUMBERS, entry, CDF_ENTRY_NUMBER);
+        TELL(entry, CDF_ENTRY_OFFSET);
+        TELL(entry, CDF_ENTRY_PART_START);
+        TELL(entry, CDF_ENTRY_PART_LENGTH);
+        TELL_AS(IDS, entry, CDF_ENTRY_ID);
+        TELL_AS(ACTIONS, entry, CDF_ENTRY_ACTION);
+        TELL(entry, CDF_ENTRY_START);
+        TELL(entry, CDF_ENTRY_OWN_END);
+        TELL(entry, CDF_ENTRY_END);
+    }
+    for (size_t i = CDF_ENTRY_NUMBERS * one.is[0]; i <= numbers; i++)
+        if (log[i] != UNWRITTEN) stop("written behind the entries of", "cdf_replay");
+    putchar('\n');
+    free(log), free(calls.is);
+}
+
+/* The builder's place from words: bytes written, count, and state and start of each slot. */
+static void set_building(void) {
+    uint64_t *p = building.is;
+    p[CDF_BUILD_PLACE_WRITTEN] = value(LENGTHS, word());
+    p[CDF_BUILD_PLACE_COUNT] = value(LENGTHS, word());
+    p[CDF_BUILD_PLACE_INNERMOST] = value(STATES, word());
+    p[CDF_BUILD_PLACE_INNERMOST + 1] = value(LENGTHS, word());
+    for (size_t at = CDF_BUILD_PLACE_OUTER; at < CDF_BUILD_PLACE_OUTER + 6; at += 2) {
+        p[at] = value(STATES, word());
+        p[at + 1] = value(LENGTHS, word());
+    }
+}
+
+static void build_next(void) {
+    uint64_t id = value(IDS, word()), action = value(ACTIONS, word());
+    bytes data = in_hex();
+    returned("cdf_build_next", cdf_build_next(buffer.is, buffer.length, building.is, id, action, data.is, data.length));
+    free(data.is);
+}
+
+static void build_add_stream(void) {
+    bytes group = in_hex();
+    returned("cdf_build_add_stream", cdf_build_add_stream(buffer.is, buffer.length, building.is, group.is, group.length));
+    free(group.is);
+}
+
+#define IS_CALL(name) !strcmp(call, #name)
+/* A call of the reader; true if this is it. */
+#define READS(name) (IS_CALL(name) && (returned(#name, name(stream.is, stream.length, place.is, answer.is)), 1))
+
+static void run(const char *call) {
+    uint64_t before[CDF_PLACE_NUMBERS], building_before[CDF_BUILD_PLACE_NUMBERS];
+    memcpy(before, place.is, sizeof before);
+    memcpy(building_before, building.is, sizeof building_before);
+    CLEAR(answer.is), CLEAR(one.is), CLEAR(explanation.is), CLEAR(found.is);
+    if (IS_CALL(stream)) {
+        free(stream.is);
+        stream = in_hex();
+    } else if (IS_CALL(buffer)) {
+        free(buffer.is);
+        buffer = many(value(LENGTHS, word()), 0xEE);
+        memset(building.is, 0, sizeof building.is);
+    } else if (IS_CALL(building)) {
+        set_building();
+    } else if (IS_CALL(cdf_version)) {
+        printf("cdf_version %llu", (number)cdf_version());
+        for (const constant *of = LENGTHS; of->name; of++) printf(" %s=%llu", of->name, (number)of->value);
+        putchar('\n');
+    } else if (IS_CALL(cdf_check)) {
+        returned(call, cdf_check(stream.is, stream.length, one.is));
+        printf(" %llu\n", (number)one.is[0]);
+    } else if (IS_CALL(cdf_explain)) {
+        explain();
+    } else if (IS_CALL(cdf_lookup)) {
+        look_up();
+    } else if (IS_CALL(cdf_listing)) {
+        list();
+    } else if (IS_CALL(cdf_replay)) {
+        replay();
+    } else if (READS(cdf_first) || READS(cdf_next) || READS(cdf_skip) || READS(cdf_get_stream) || READS(cdf_previous) ||
+               READS(cdf_abnormal_end)) {
+        tell_answer();
+        tell_place(before);
+    } else if (IS_CALL(cdf_build_first)) {
+        returned(call, cdf_build_first(buffer.is, buffer.length, value(IDS, word()), building.is));
+        tell_building(building_before);
+    } else if (IS_CALL(cdf_build_next)) {
+        build_next();
+        tell_building(building_before);
+    } else if (IS_CALL(cdf_build_add_stream)) {
+        build_add_stream();
+        tell_building(building_before);
+    } else if (IS_CALL(cdf_build_finish)) {
+        returned(call, cdf_build_finish(buffer.is, buffer.length, building.is, one.is));
+        printf(" %llu", (number)one.is[0]);
+        tell_building(building_before);
+    } else {
+        stop("no call:", call);
+    }
+}
+
+int main(void) {
+    static char line[1 << 19];
+    SET(place), SET(answer), SET(one), SET(explanation), SET(found), SET(building);
+    while (fgets(line, sizeof line, stdin)) {
+        if (!strchr(line, '\n')) stop("a line is", "too long");
+        run(strtok(line, " \n"));
+    }
+    return 0;
+}
