@@ -64,17 +64,17 @@ module _ (l : Layout) (s t : List ℕ) (q : Query) where
 
 -- The value of a stream.
 module _ (l : Layout) (s : List ℕ) (q : Query) where
-  abbrev isField : Unit → Unit → Bool
+  abbrev pub isField : Unit → Unit → Bool
   isField t u = inside t u && named l s field (q .field) u
 
-  abbrev isAsked : Unit → Bool
+  abbrev pub isAsked : Unit → Bool
   isAsked = isThatTemplate l s q (listing l s .units)
 
-  value-is : valueIn l s q ≡ valueInside l s q (listing l s .units) (firstThat isAsked (listing l s .units))
+  pub value-is : valueIn l s q ≡ valueInside l s q (listing l s .units) (firstThat isAsked (listing l s .units))
   unfolding valueIn
   value-is = refl
 
-  inside-is : (t : Unit) → valueInside l s q (listing l s .units) (some t) ≡ valueOf (firstThat (isField t) (listing l s .units))
+  pub inside-is : (t : Unit) → valueInside l s q (listing l s .units) (some t) ≡ valueOf (firstThat (isField t) (listing l s .units))
   unfolding valueInside
   inside-is t = refl
 

@@ -5,7 +5,7 @@ use mathlib.Core.Bool.{cond}
 use mathlib.Core.List.{List, [], _∷_}
 use mathlib.Core.Logic.{_⊎_}
 use lib.Dec.{eqb}
-use Rattle.cdf_unit_table.specs.Ids.{template, temporaryKey, templateKey, field}
+use Rattle.cdf_unit_table.specs.Ids.{erGroup, template, temporaryKey, templateKey, field}
 use Rattle.cdf_unit_prefix.specs.Layout.{Layout}
 use Rattle.cdf_unit_list.specs.Units.{listing}
 use Rattle.cdf_unit_list.specs.declared.Unit.{Unit}
@@ -58,3 +58,7 @@ Lacks l s q = (t : Unit) → First (Asked l s q) t (listing l s .units) → None
 -- The stream that is named: the second by 2, the first by any other number, as a refusal's part stands in the first.
 abbrev pub streamOf : {A : Type 0} → ℕ → A → A → A
 streamOf which first second = cond (eqb which 2) second first
+
+-- The root, which is listed first, is an E/R group.
+abbrev pub Grouped : Layout → List ℕ → Type 0
+Grouped l s = (root : Unit) × (us : List Unit) × (listing l s .units ≡ root ∷ us) × (root .id ≡ erGroup)

@@ -2,15 +2,34 @@
 use Prim.Native.Nat.{ℕ}
 use mathlib.Core.Path.{_≡_}
 use mathlib.Core.List.{List}
-use mathlib.Core.Logic.{_⊎_}
+use mathlib.Core.Logic.{_⊎_, _↔_}
 use Rattle.cdf_unit_prefix.specs.Layout.{Layout}
+use Rattle.cdf_unit_list.specs.Check.{checkOf}
+use Rattle.cdf_grammar.specs.Claims.{Accepted}
 use Rattle.cdf_lookup_spec.specs.Find.{Query, refusal, lookupOf}
-use Rattle.cdf_lookup_spec.specs.Chosen.{Chosen, Lacks, streamOf}
+use Rattle.cdf_lookup_spec.specs.Chosen.{Chosen, Lacks, Grouped, streamOf}
 use Rattle.cdf_lookup_spec.specs.Samples.{samplesFound, samplesDue}
 
 pub record Claims : Type 0 where
   -- K2 and its damaged forms, and groups of two persons and of one with two keys, computed.
   pub samples : samplesFound ≡ samplesDue
+  -- The first stream's check comes first: if it refuses, the answer is its number and offset, whatever the second stream is;
+  pub checked : (l : Layout) (s t : List ℕ) (q : Query) → (Accepted l s → ⊥) →
+      lookupOf l s t q ≡ refusal (checkOf l s .number) (checkOf l s .value)
+  -- then the second's.
+  pub then-checked : (l : Layout) (s t : List ℕ) (q : Query) → Accepted l s → (Accepted l t → ⊥) →
+      lookupOf l s t q ≡ refusal (checkOf l t .number) (checkOf l t .value)
+  -- Of two accepted streams it is 7 exactly if the root of one is no E/R group,
+  pub seven : (l : Layout) (s t : List ℕ) (q : Query) → Accepted l s → Accepted l t →
+      (lookupOf l s t q .number ≡ 7) ↔ ((Grouped l s → ⊥) ⊎ (Grouped l t → ⊥))
+  -- of two accepted E/R groups 0 or 15,
+  pub answers : (l : Layout) (s t : List ℕ) (q : Query) → Accepted l s → Accepted l t → Grouped l s → Grouped l t →
+      (lookupOf l s t q .number ≡ 0) ⊎ (lookupOf l s t q .number ≡ 15)
+  -- and a value that the first of them has is the one that is found.
+  pub first : (l : Layout) (s t : List ℕ) (q : Query) (start size : ℕ) → Accepted l s → Accepted l t → Grouped l s → Grouped l t →
+      Chosen l s q start size → lookupOf l s t q ≡ record { number = 0; offset = 0; which = 1; start = start; size = size }
+  -- Only a check's number comes with an offset.
+  pub offset : (l : Layout) (s t : List ℕ) (q : Query) → Accepted l s → Accepted l t → lookupOf l s t q .offset ≡ 0
   -- With 0 one of the two streams is named,
   pub named : (l : Layout) (s t : List ℕ) (q : Query) → lookupOf l s t q .number ≡ 0 →
       (lookupOf l s t q .which ≡ 1) ⊎ (lookupOf l s t q .which ≡ 2)
