@@ -2,4 +2,5 @@ pub mod Names
 pub mod Standing
 pub mod Taken
 pub mod Pointing
+pub mod Bounded
 pub mod Proved
