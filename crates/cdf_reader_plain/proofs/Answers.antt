@@ -9,6 +9,7 @@ use lib.Dec.{eqb, leb}
 use lib.ListN.{length}
 use Rattle.cdf_unit_table.specs.States.{opens, skipped}
 use Rattle.cdf_unit_table.proofs.Bools.{both, of-cond}
+use Rattle.cdf_unit_table.proofs.Skipping.{skipped-complete}
 use Rattle.cdf_unit_prefix.specs.Layout.{Layout}
 use Rattle.cdf_unit_list.specs.Units.{End, ended}
 use Rattle.cdf_unit_list.specs.Stack.{Step, withState, step}
@@ -30,7 +31,7 @@ use Rattle.cdf_reader_spec.specs.declared.Call.{Call}
 use Rattle.cdf_reader_spec.specs.declared.Call.the-variants.{Start, Next, Skip, GetStream, Previous}
 use Rattle.cdf_reader_plain.specs.Calls.{handing}
 use Rattle.cdf_reader_plain.specs.Plain.{State, Turn, startingAt, handOut, followers, plainAnswer}
-use Rattle.cdf_reader_plain.proofs.Skipped.{skipped-complete, group-opens}
+use Rattle.cdf_reader_plain.proofs.Groups.{group-opens}
 use Rattle.cdf_reader_spec.proofs.Replying.{passing-tests, skip-is, take-is, part-is, previous-tests}
 use Rattle.cdf_reader_plain.proofs.Passing.{top, passed-fits}
 use Rattle.cdf_reader_plain.proofs.Later.{starts-before, further-on, Starts, unit-starts, step-starts, run-past}

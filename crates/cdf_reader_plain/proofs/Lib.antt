@@ -1,4 +1,4 @@
-pub mod Skipped
+pub mod Groups
 pub mod Passing
 pub mod Later
 pub mod Equations

@@ -9,6 +9,7 @@ use lib.Dec.{eqb}
 use lib.ListN.{length}
 use Rattle.cdf_unit_table.specs.States.{unitOf, nothing, skipped}
 use Rattle.cdf_unit_table.proofs.Bools.{both, of-cond}
+use Rattle.cdf_unit_table.proofs.Skipping.{skipped-unit}
 use Rattle.cdf_unit_prefix.specs.Layout.{Layout}
 use Rattle.cdf_unit_list.specs.Stack.{withState}
 use Rattle.cdf_unit_list.specs.declared.Unit.{Unit}
@@ -19,7 +20,6 @@ use Rattle.cdf_reader_spec.proofs.Fitting.{fitting, fits-true}
 use Rattle.cdf_reader_spec.proofs.Opened.{kinds-states, chain-clauses}
 use Rattle.cdf_reader_spec.proofs.Replying.{passing-tests, skip-is, take-is, previous-tests}
 use Rattle.cdf_reader_runs.proofs.Around.{Around, lies, position-in, with-state, fitting-held}
-use Rattle.cdf_reader_plain.proofs.Skipped.{skipped-unit}
 
 -- The last unit ends where the innermost open one does, if it is that one.
 last-end : (position : ℕ) (o : Open) (os : List Open) (u : Unit) → atLast position (o ∷ os) u ≡ true → o .end ≡ u .end

@@ -19,7 +19,7 @@ use Rattle.cdf_grammar.proofs.Proved.{stream-listing}
 use Rattle.cdf_reader_spec.specs.Calls.{isGroup}
 use Rattle.cdf_reader_spec.proofs.Replying.{start}
 use Rattle.cdf_reader_runs.proofs.Steps.{Run, listed}
-use Rattle.cdf_reader_plain.proofs.Skipped.{group-root}
+use Rattle.cdf_reader_plain.proofs.Groups.{group-root}
 
 -- Of the unit list: it is a run of steps to the end, has a unit, and each unit's bytes are a tree's.
 pub record Readable (l : Layout) (s : List ℕ) : Type 0 where

@@ -1,15 +1,16 @@
--- The skipped state by the ends of the units' ranges: at every state by computation, past them by law.
+-- The skipped state: by the ends of the units' ranges, and as what it is. At every state by computation, past them by law.
 use Prim.Native.Nat.{ℕ, _≤_}
 use mathlib.Core.Path.{_≡_, refl}
-use mathlib.Core.Bool.{cond, _&&_}
+use mathlib.Core.Bool.{cond, _&&_, and-false}
 use native.Mathlib.Omega.{arith}
 use borrow.Author.Tests.{le-ltb, lt-leb, leb-true}
 use lib.Dec.{leb, ltb, ltb→lt}
-use Rattle.cdf_unit_table.specs.States.{parents, statesEnd, skipped, streamNew, streamSkipped, erSkipped, fileSkipped, callSkipped}
-use Rattle.cdf_unit_table.specs.States.{templateSkipped, relationSkipped, orderedSkipped, entitySkipped}
+use Rattle.cdf_unit_table.specs.States.{parents, statesEnd, unitOf, skipped, complete, streamNew, streamSkipped, erSkipped, fileSkipped}
+use Rattle.cdf_unit_table.specs.States.{callSkipped, templateSkipped, relationSkipped, orderedSkipped, entitySkipped}
 use Rattle.cdf_unit_table.proofs.Bools.{both}
+use Rattle.cdf_unit_table.proofs.Tests.{agree}
 use Rattle.cdf_unit_table.proofs.Tables.{same}
-use Rattle.cdf_unit_table.proofs.Rows.{from-parents}
+use Rattle.cdf_unit_table.proofs.Rows.{from-parents, no-unit}
 
 unfoldable pub skippedBy : ℕ → ℕ
 skippedBy s =
@@ -22,6 +23,7 @@ skippedBy s =
     (cond (leb s relationSkipped) relationSkipped
     (cond (leb s orderedSkipped) orderedSkipped (cond (leb s entitySkipped) entitySkipped 0))))))))
 
+-- A number past the states is no unit's, skipped or not.
 past : (s : ℕ) → statesEnd ≤ s → skipped s ≡ 0
 unfolding skipped
 past s h =
@@ -47,3 +49,15 @@ by-past s h =
 pub skipped-is : (s : ℕ) → skippedBy s ≡ skipped s
 unfolding skippedBy skipped
 skipped-is = same skippedBy skipped statesEnd refl by-past
+
+-- A unit that is skipped stays the same unit,
+pub skipped-unit : (s : ℕ) → unitOf (skipped s) ≡ unitOf s
+unfolding unitOf skipped
+skipped-unit = same (λ s. unitOf (skipped s)) unitOf statesEnd refl (λ s h. rw (past s h, no-unit s h))
+
+-- and is complete; what is no state is not.
+pub skipped-complete : (s : ℕ) → complete (skipped s) ≡ (leb 1 s && ltb s statesEnd)
+unfolding complete skipped
+skipped-complete =
+    agree (λ s. complete (skipped s)) (λ s. leb 1 s && ltb s statesEnd) statesEnd tt
+    (λ s h. rw (past s h, le-ltb s statesEnd h, and-false))
