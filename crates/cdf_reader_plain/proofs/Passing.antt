@@ -1,6 +1,7 @@
--- The place past the last unit fits, and so does every place that SKIP, GET_STREAM and PREVIOUS return with 0.
+-- The place past the last unit fits, and so does every place that SKIP, GET_STREAM and PREVIOUS return with 0. Past a root there is
+-- nothing; and how many bytes there are is all that SKIP and GET_STREAM ask of them.
 use Prim.Native.Nat.{ℕ}
-use mathlib.Core.Path.{_≡_, refl}
+use mathlib.Core.Path.{_≡_, refl, _∙_}
 use mathlib.Core.Bool.{Bool, true, false, not, _&&_, false≢true}
 use mathlib.Core.List.{List, [], _∷_}
 use native.Mathlib.Omega.{arith}
@@ -9,17 +10,20 @@ use lib.Dec.{eqb}
 use lib.ListN.{length}
 use Rattle.cdf_unit_table.specs.States.{unitOf, nothing, skipped}
 use Rattle.cdf_unit_table.proofs.Bools.{both, of-cond}
-use Rattle.cdf_unit_table.proofs.Skipping.{skipped-unit}
+use Rattle.cdf_unit_table.proofs.Skipping.{skipped-unit, skipped-complete}
 use Rattle.cdf_unit_prefix.specs.Layout.{Layout}
-use Rattle.cdf_unit_list.specs.Stack.{withState}
+use Rattle.cdf_unit_list.specs.Stack.{close, done, withState, stepIn, step}
 use Rattle.cdf_unit_list.specs.declared.Unit.{Unit}
 use Rattle.cdf_unit_list.specs.declared.Open.{Open}
+use Rattle.cdf_unit_list.proofs.Stepping.{step-closes}
 use Rattle.cdf_reader_spec.specs.Place.{ReaderPlace, isEmpty, every, isState, atLast, fits}
-use Rattle.cdf_reader_spec.specs.Calls.{Reply, refuse, untouched, skippedTop, passed, passing, skipOf, isGroup, takeOf, previousOf}
+use Rattle.cdf_reader_spec.specs.Calls.{Reply, refuse, stepped, nextOf, untouched, skippedTop, passed, passing, skipOf, isGroup, takeOf, partOf}
+use Rattle.cdf_reader_spec.specs.Calls.{previousOf}
 use Rattle.cdf_reader_spec.proofs.Fitting.{fitting, fits-true}
 use Rattle.cdf_reader_spec.proofs.Opened.{kinds-states, chain-clauses}
-use Rattle.cdf_reader_spec.proofs.Replying.{passing-tests, skip-is, take-is, previous-tests}
+use Rattle.cdf_reader_spec.proofs.Replying.{passing-tests, skip-is, take-is, part-is, previous-tests}
 use Rattle.cdf_reader_runs.proofs.Around.{Around, lies, position-in, with-state, fitting-held}
+use Rattle.cdf_reader_runs.proofs.Replies.{next-is}
 
 -- The last unit ends where the innermost open one does, if it is that one.
 last-end : (position : ℕ) (o : Open) (os : List Open) (u : Unit) → atLast position (o ∷ os) u ≡ true → o .end ≡ u .end
@@ -113,3 +117,43 @@ module _ (l : Layout) (s : List ℕ) where
       (of-cond Fits (isEmpty p) (refuse 11 0 p) _ (λ e z. absurd (omega arith))
       (λ e. of-cond Fits (not (fits l (length s) p)) (refuse 2 0 p) _ (λ f z. absurd (omega arith))
       (λ f z. not-false (fits l (length s) p) f)))
+
+  -- With no unit open a step is at the end.
+  none-open : (pos : ℕ) → step l s [] pos ≡ done
+  unfolding step stepIn close
+  none-open pos = refl
+
+  -- Past the one open unit is the end.
+  passed-end : (p : ReaderPlace) (o : Open) → p .units ≡ o ∷ [] → fits l (length s) p ≡ true → p .fresh ≡ true →
+      nextOf l s (passed p) ≡ refuse 1 0 (passed p)
+  unfolding passed skippedTop withState stepped every
+  passed-end p o q f on =
+      let fit = fitting l (length s) p f in
+      let end = last-end (p .position) o [] (p .last) (rw q at (fit .last on)) in
+      let state = both (isState (o .state)) _ (rw q at (fit .states)) .0 in
+      let stop = p .last .end in
+      let skip = withState o (skipped (o .state)) in
+      let at-end : step l s (skip ∷ []) stop ≡ done = rw (step-closes l s skip [] stop end, skipped-complete, state) (none-open stop) in
+      next-is l s (passed p) (passed-fits l (length s) p f on) ∙ rw (q, at-end)
+
+  -- If the number is 0, the end is next.
+  abbrev Ended : Reply → Type 0
+  Ended r = r .number ≡ 0 → nextOf l s (r .place) ≡ refuse 1 0 (r .place)
+
+  pub skipped-root : (p : ReaderPlace) (o : Open) → p .units ≡ o ∷ [] → Ended (skipOf l s p)
+  skipped-root p o q =
+      rw (skip-is, passing-tests)
+      (of-cond Ended (not (untouched p)) (refuse 11 0 p) _ (λ e z. absurd (omega arith))
+      (λ e. of-cond Ended (not (fits l (length s) p)) (refuse 2 0 p) (refuse 0 0 (passed p)) (λ f z. absurd (omega arith))
+      (λ f z. passed-end p o q (not-false (fits l (length s) p) f) (flag-on p (not-false (untouched p) e)))))
+
+-- Other bytes, as many, are passed and taken alike.
+module _ (l : Layout) (s s' : List ℕ) (long : length s ≡ length s') (p : ReaderPlace) where
+  passing-blind : (may : Bool) → passing l s p may ≡ passing l s' p may
+  passing-blind may = rw (passing-tests l s p may, passing-tests l s' p may, long)
+
+  take-blind : takeOf l s p ≡ takeOf l s' p
+  take-blind = rw (take-is l s p, take-is l s' p) (passing-blind (untouched p && isGroup (p .last .id)))
+
+  pub skip-blind : (skipOf l s p ≡ skipOf l s' p) × (takeOf l s p ≡ takeOf l s' p) × (partOf l s p ≡ partOf l s' p)
+  skip-blind = (rw (skip-is l s p, skip-is l s' p) (passing-blind (untouched p)), take-blind, rw (part-is l s p, part-is l s' p, take-blind))

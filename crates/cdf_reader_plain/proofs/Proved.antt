@@ -12,7 +12,7 @@ use Rattle.cdf_reader_spec.specs.Place.{nested, every, positioned, atLast}
 use Rattle.cdf_reader_spec.specs.declared.Call.the-variants.{Start}
 use Rattle.cdf_reader_plain.specs.Runs.{readerRun, plainRun, noState}
 use Rattle.cdf_reader_plain.specs.Claims.{Reads, Claims}
-use Rattle.cdf_reader_plain.proofs.Passing.{skip-fits, take-fits, previous-fits}
+use Rattle.cdf_reader_plain.proofs.Passing.{skip-fits, take-fits, previous-fits, skipped-root, skip-blind}
 use Rattle.cdf_reader_plain.proofs.Numbers.{run-apart}
 use Rattle.cdf_reader_plain.proofs.Streams.{readable}
 use Rattle.cdf_reader_plain.proofs.Reading.{answers, follows, ends, taken}
@@ -37,6 +37,9 @@ proved = record {
   skip-fits = skip-fits;
   take-fits = take-fits;
   previous-fits = previous-fits;
+  skipped-root = skipped-root;
+  skip-blind = skip-blind;
   example-k2 = (refl, refl);
   example-k12 = (refl, refl);
+  example-k6 = refl;
 }

@@ -11,16 +11,17 @@ use Rattle.cdf_unit_prefix.specs.declared.Edition.the-variants.{First}
 use Rattle.cdf_unit_list.specs.Units.{listing}
 use Rattle.cdf_unit_list.specs.Samples.{k2, k12}
 use Rattle.cdf_unit_list.specs.declared.Unit.{Unit}
+use Rattle.cdf_unit_list.specs.declared.Open.{Open}
 use Rattle.cdf_grammar.specs.Trees.{Forest}
 use Rattle.cdf_grammar.specs.Encoding.{Stream}
 use Rattle.cdf_reader_spec.specs.Place.{ReaderPlace, fits}
-use Rattle.cdf_reader_spec.specs.Calls.{emptyPlace, nextOf, skipOf, takeOf, partOf, previousOf}
+use Rattle.cdf_reader_spec.specs.Calls.{emptyPlace, refuse, nextOf, skipOf, takeOf, partOf, previousOf}
 use Rattle.cdf_reader_spec.specs.declared.Call.{Call}
 use Rattle.cdf_reader_spec.specs.declared.Call.the-variants.{Start, Next}
 use Rattle.cdf_reader_plain.specs.Calls.{handing}
 use Rattle.cdf_reader_plain.specs.Plain.{following}
 use Rattle.cdf_reader_plain.specs.Runs.{tells, readerRun, placeAfter, plainRun, stateAfter, noState}
-use Rattle.cdf_reader_plain.specs.Samples.{k2Calls, k2Answers, k12Calls, k12Answers}
+use Rattle.cdf_reader_plain.specs.Samples.{k2Calls, k2Answers, k12Calls, k12Answers, k6, k6Calls, k6Answers}
 
 -- Of a stream of the published grammar in one edition, read from a start by any calls, refused ones too.
 pub record Reads (e : Edition) (s : List ℕ) : Type 0 where
@@ -50,6 +51,12 @@ pub record Claims : Type 0 where
   pub take-fits : (l : Layout) (s : List ℕ) (p : ReaderPlace) → takeOf l s p .number ≡ 0 → fits l (length s) (takeOf l s p .place) ≡ true
   pub previous-fits : (l : Layout) (s : List ℕ) (p : ReaderPlace) → previousOf l s p .number ≡ 0 →
       fits l (length s) (previousOf l s p .place) ≡ true
+  -- After SKIP of a root, NEXT reports the end, whatever the bytes.
+  pub skipped-root : (l : Layout) (s : List ℕ) (p : ReaderPlace) (o : Open) → p .units ≡ o ∷ [] → skipOf l s p .number ≡ 0 →
+      nextOf l s (skipOf l s p .place) ≡ refuse 1 0 (skipOf l s p .place)
+  -- SKIP and GET_STREAM look at no byte: of other bytes, as many, they answer the same.
+  pub skip-blind : (l : Layout) (s s' : List ℕ) → length s ≡ length s' → (p : ReaderPlace) →
+      (skipOf l s p ≡ skipOf l s' p) × (takeOf l s p ≡ takeOf l s' p) × (partOf l s p ≡ partOf l s' p)
   -- Two runs with every call and with refused ones, each answer written out: both readers give these.
   pub example-k2 :
       (readerRun (layoutOf First) k2 emptyPlace k2Calls ≡ k2Answers)
@@ -57,3 +64,5 @@ pub record Claims : Type 0 where
   pub example-k12 :
       (readerRun (layoutOf First) k12 emptyPlace k12Calls ≡ k12Answers)
       × (plainRun (listing (layoutOf First) k12 .units) noState k12Calls ≡ k12Answers)
+  -- A run over a group with a damaged line: NEXT tells what is wrong with it, and SKIP and GET_STREAM pass it.
+  pub example-k6 : readerRun (layoutOf First) k6 emptyPlace k6Calls ≡ k6Answers

@@ -1,8 +1,10 @@
--- Runs of both readers over the samples K2 and K12 (01, "Samples"): the calls, and each answer written out.
+-- Runs over the samples K2, K12 and K6 (01, "Samples"): the calls, and each answer written out.
 use Prim.Native.Nat.{ℕ}
 use mathlib.Core.List.{List, [], _∷_}
+use lib.ListN.{set}
+use Rattle.cdf_unit_list.specs.Samples.{k1}
 use Rattle.cdf_unit_list.specs.declared.Unit.{Unit}
-use Rattle.cdf_reader_spec.specs.Calls.{noUnit}
+use Rattle.cdf_reader_spec.specs.Calls.{noUnit, noPart}
 use Rattle.cdf_reader_spec.specs.declared.Call.{Call}
 use Rattle.cdf_reader_spec.specs.declared.Call.the-variants.{Start, Next, Skip, GetStream, Previous}
 use Rattle.cdf_reader_plain.specs.Calls.{Told, handing, saying}
@@ -23,6 +25,10 @@ key = unit 6 0 19 29 29
 abbrev field : Unit
 field = unit 8 1 29 43 46
 
+-- 0, and a part that is taken.
+abbrev taking : ℕ → ℕ → Told
+taking from size = record { number = 0; offset = 0; part = record { start = from; size = size }; unit = noUnit }
+
 -- Unit by unit to the end, the template skipped, and the group taken; a key, and what was passed, cannot be passed.
 abbrev pub k2Calls : List Call
 k2Calls =
@@ -34,9 +40,7 @@ abbrev pub k2Answers : List Told
 k2Answers =
     handing group ∷ handing group ∷ handing template ∷ handing key ∷ saying 11 ∷ handing field ∷ saying 1 ∷ saying 11
     ∷ handing group ∷ handing template ∷ saying 0 ∷ saying 11 ∷ handing template ∷ saying 1
-    ∷ handing group
-    ∷ record { number = 0; offset = 0; part = record { start = 0; size = 46 }; unit = noUnit }
-    ∷ saying 1 ∷ handing group ∷ []
+    ∷ handing group ∷ taking 0 46 ∷ saying 1 ∷ handing group ∷ []
 
 -- of K12: the stream and its function call, in which there is nothing
 abbrev stream : Unit
@@ -55,3 +59,21 @@ abbrev pub k12Answers : List Told
 k12Answers =
     handing stream ∷ saying 11 ∷ handing call ∷ saying 1 ∷ saying 11 ∷ saying 0 ∷ saying 1 ∷ handing call
     ∷ handing stream ∷ saying 0 ∷ saying 1 ∷ saying 11 ∷ handing stream ∷ []
+
+-- K6: K1 with its line's length one too high, so that the line is damaged and the group is not
+abbrev pub k6 : List ℕ
+k6 = set k1 9 0x0b
+
+abbrev file : Unit
+file = unit 13 0 0 6 16
+
+-- 5 at the line.
+abbrev atLine : Told
+atLine = record { number = 5; offset = 6; part = noPart; unit = noUnit }
+
+-- The group is skipped and taken as if nothing were wrong in it.
+abbrev pub k6Calls : List Call
+k6Calls = Start ∷ Next ∷ Skip ∷ Next ∷ Start ∷ GetStream ∷ Next ∷ []
+
+abbrev pub k6Answers : List Told
+k6Answers = handing file ∷ atLine ∷ saying 0 ∷ saying 1 ∷ handing file ∷ taking 0 16 ∷ saying 1 ∷ []
