@@ -1,5 +1,3 @@
-pub mod Comparing
 pub mod Rooted
-pub mod Searched
 pub mod Deciding
 pub mod Parting

@@ -1,5 +1,4 @@
--- The same by one pass over the units: what the private functions of the lookup promise each other. No claim and no contract that is open to
--- callers cites this file.
+-- The same by one pass over the units: what the search below the lookup promises. No claim and no promise of the lookup cites this file.
 use Prim.Native.Nat.{ℕ}
 use mathlib.Core.Bool.{Bool, true, false, cond}
 use mathlib.Core.List.{List, foldl}

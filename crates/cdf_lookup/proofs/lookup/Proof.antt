@@ -1,6 +1,7 @@
 -- By the numbers of the other function, which decides: the part of the stream that it names.
 use Prim.Native.Nat.{_+_, _-_}
 use mathlib.Core.Path.{_≡_}
+use native.Mathlib.Nat.{add-comm}
 use native.Mathlib.Omega.{arith}
 use borrow.Author.Needs.{needs}
 use borrow.Author.Tests.{eq-eqb, ne-eqb}
@@ -44,7 +45,7 @@ returns c =
     let r = call .lookup-place .result in
     let size : r .start + r .size - r .start ≡ r .size = omega arith in
     let second = eq-eqb (r .which) 2 (c .before .if1 .taken) in
-    rw (← call .lookup-place .ensures .0) (record { bytes = rw (size, second); memory = rw second; stands = rw second (search needs) })
+    rw (← call .lookup-place .ensures .0) (record { bytes = rw (size, second); memory = rw second; stands = rw second (add-comm (r .start) _) })
 
 sub-result-2 : tie.Need-sub-result-2
 sub-result-2 c = search needs
@@ -64,7 +65,7 @@ returns-2 c =
     let r = call .lookup-place .result in
     let size : r .start + r .size - r .start ≡ r .size = omega arith in
     let first = ne-eqb (r .which) 2 (c .before .if1 .left) in
-    rw (← call .lookup-place .ensures .0) (record { bytes = rw (size, first); memory = rw first; stands = rw first (search needs) })
+    rw (← call .lookup-place .ensures .0) (record { bytes = rw (size, first); memory = rw first; stands = rw first (add-comm (r .start) _) })
 
 pub lookup-spec : {M : Type 1} → statement M
 lookup-spec =

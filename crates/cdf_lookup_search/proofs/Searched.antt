@@ -18,7 +18,7 @@ use Rattle.cdf_lookup_spec.specs.declared.Search.{Search}
 use Rattle.cdf_lookup_spec.specs.declared.Search.the-variants.{Seeking, Named, Inside, Over}
 use Rattle.cdf_lookup_spec.specs.declared.Value.the-variants.{At, Missing}
 use Rattle.cdf_lookup_spec.proofs.Searching.{over-stays}
-use Rattle.cdf_lookup.specs.Parts.{Lies, Placed}
+use Rattle.cdf_lookup_search.specs.Placed.{Lies, Placed}
 
 pub nowhere : (n : ℕ) → Placed n Missing
 nowhere n start end e = let z : _≡_ {A = ℕ} 0 1 = cc in absurd (omega arith)

@@ -3,9 +3,9 @@ use Prim.Native.Nat.{_-_}
 use mathlib.Core.Path.{refl, sym}
 use native.Mathlib.Omega.{arith}
 use lib.ListN.{length}
-use Rattle.cdf_lookup.proofs.Comparing.{unequal, Alike, differs, alike-on, alike-whole}
-use Rattle.cdf_lookup.proofs.same.Statement.{statement}
-use Rattle.cdf_lookup.proofs.same.Tie as tie
+use Rattle.cdf_lookup_search.proofs.Comparing.{unequal, Alike, differs, alike-on, alike-whole}
+use Rattle.cdf_lookup_search.proofs.same.Statement.{statement}
+use Rattle.cdf_lookup_search.proofs.same.Tie as tie
 
 abbrev Inv-loop : tie.InvT-loop
 Inv-loop a b i₀ i = Alike a b i

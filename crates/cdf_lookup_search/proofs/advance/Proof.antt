@@ -2,8 +2,8 @@
 use borrow.Author.Tests.{lt-ltb, le-ltb, not-true, not-false}
 use borrow.Author.Needs.{needs}
 use Rattle.cdf_lookup_spec.specs.Search.{advanceOf}
-use Rattle.cdf_lookup.proofs.advance.Statement.{statement}
-use Rattle.cdf_lookup.proofs.advance.Tie as tie
+use Rattle.cdf_lookup_search.proofs.advance.Statement.{statement}
+use Rattle.cdf_lookup_search.proofs.advance.Tie as tie
 
 enum-told : tie.Need-enum-told
 enum-told c = search needs

@@ -2,8 +2,8 @@
 use borrow.Author.Tests.{eq-eqb, ne-eqb}
 use borrow.Author.Needs.{needs}
 use Rattle.cdf_lookup_spec.specs.Find.{reads}
-use Rattle.cdf_lookup.proofs.holds.Statement.{statement}
-use Rattle.cdf_lookup.proofs.holds.Tie as tie
+use Rattle.cdf_lookup_search.proofs.holds.Statement.{statement}
+use Rattle.cdf_lookup_search.proofs.holds.Tie as tie
 
 returns : tie.Need-returns
 unfolding reads

@@ -13,10 +13,10 @@ use Rattle.cdf_reader_runs.proofs.Folding.{Going, begun, Turn, turned}
 use Rattle.cdf_lookup_spec.specs.Find.{Query, query}
 use Rattle.cdf_lookup_spec.specs.Search.{advanceOf, outcomeOf}
 use Rattle.cdf_lookup_spec.specs.declared.Search.the-variants.{Seeking}
-use Rattle.cdf_lookup.specs.Parts.{Placed}
-use Rattle.cdf_lookup.proofs.Searched.{nowhere, lies-in, goes-on, keeps-place, searched, over-early}
-use Rattle.cdf_lookup.proofs.search.Statement.{statement}
-use Rattle.cdf_lookup.proofs.search.Tie as tie
+use Rattle.cdf_lookup_search.specs.Placed.{Placed}
+use Rattle.cdf_lookup_search.proofs.Searched.{nowhere, lies-in, goes-on, keeps-place, searched, over-early}
+use Rattle.cdf_lookup_search.proofs.search.Statement.{statement}
+use Rattle.cdf_lookup_search.proofs.search.Tie as tie
 
 abbrev l : Layout
 l = layoutOf First
