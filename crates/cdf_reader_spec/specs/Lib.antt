@@ -4,4 +4,5 @@ pub mod Slots
 pub mod Closing
 pub mod Tests
 pub mod NearMisses
+pub mod Refusals
 pub mod Claims

@@ -11,24 +11,24 @@ use Rattle.cdf_unit_list.specs.declared.Unit.{Unit}
 use Rattle.cdf_unit_list.specs.declared.Open.{Open}
 use Rattle.cdf_reader_spec.specs.Place.{ReaderPlace, clauses}
 
-abbrev unit : ℕ → ℕ → ℕ → ℕ → Unit
+abbrev pub unit : ℕ → ℕ → ℕ → ℕ → Unit
 unit id from own end = record { id = id; action = 1; start = from; own = own; end = end }
 
-abbrev opened : ℕ → ℕ → ℕ → Open
+abbrev pub opened : ℕ → ℕ → ℕ → Open
 opened state from end = record { state = state; start = from; end = end }
 
-abbrev place : ℕ → List Open → Unit → Bool → ReaderPlace
+abbrev pub place : ℕ → List Open → Unit → Bool → ReaderPlace
 place position units last fresh = record { position = position; units = units; last = last; fresh = fresh }
 
 -- K2 has 46 bytes; its group starts at 0, its template at 6 with its own end at 19 and its end at 46. The flag is on just after the
 -- template was handed out; `aside` is a last unit that has nothing to do with the open ones.
-abbrev group : Open
+abbrev pub group : Open
 group = opened erData 0 46
 
-abbrev inner : Open
+abbrev pub inner : Open
 inner = opened templateNew 6 46
 
-abbrev aside : Unit
+abbrev pub aside : Unit
 aside = unit 0 0 6 6
 
 abbrev pub nearMisses : List ReaderPlace
