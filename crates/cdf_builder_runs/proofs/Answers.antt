@@ -2,7 +2,7 @@
 use Prim.Native.Nat.{_≤_}
 use mathlib.Core.Path.{_≡_, refl, sym, ap, _∙_}
 use mathlib.Core.Bool.{true}
-use mathlib.Core.List.{List, [], _∷_, map}
+use mathlib.Core.List.{List, [], _∷_, _++_, map}
 use lib.ListN.{length}
 use Rattle.cdf_unit_prefix.specs.Layout.{Layout}
 use Rattle.cdf_builder_write.specs.Patch.{patch}
@@ -76,3 +76,18 @@ module _ (l : Layout) where
   unfolding run
   run-fits [] a fit d = fit
   run-fits (r ∷ rs) a fit d = run-fits rs (answer l a r) (answer-fits a r (first-done (answer l a r) rs (d .1))) (d .1)
+
+  -- Calls that are done, and more after them.
+  pub done-front : (a : Reply) (xs ys : List Request) → AllDone l a (xs ++ ys) → AllDone l a xs
+  done-front a [] ys d = first-done a ys d
+  done-front a (x ∷ xs) ys d = (d .0, done-front (answer l a x) xs ys (d .1))
+
+  pub done-after : (a : Reply) (xs ys : List Request) → AllDone l a (xs ++ ys) → AllDone l (run l a xs) ys
+  unfolding run
+  done-after a [] ys d = d
+  done-after a (x ∷ xs) ys d = done-after (answer l a x) xs ys (d .1)
+
+  pub done-on : (a : Reply) (xs : List Request) (r : Request) → AllDone l a xs → answer l (run l a xs) r .number ≡ 0 → AllDone l a (xs ++ (r ∷ []))
+  unfolding run
+  done-on a [] r d e = (d, e)
+  done-on a (x ∷ xs) r d e = (d .0, done-on (answer l a x) xs r (d .1) e)

@@ -1,14 +1,15 @@
 -- What a start and calls come to, from what their place and buffer stand for.
 use Prim.Native.Nat.{ℕ}
 use mathlib.Core.Path.{_≡_, refl, sym, ap, _∙_}
-use mathlib.Core.Bool.{Bool, true, false, cond, not}
-use mathlib.Core.List.{List, [], _∷_, cons≢nil}
+use mathlib.Core.Bool.{Bool, true, false}
+use mathlib.Core.List.{List, [], _∷_, _++_, cons≢nil}
 use mathlib.Core.Logic.{_↔_}
 use native.Mathlib.Omega.{arith}
-use lib.ListN.{length, take, length-append, length-take}
+use lib.ListN.{length, take, length-take}
 use Rattle.cdf_unit_prefix.specs.Layout.{Layout, layoutOf, prefixOf}
 use Rattle.cdf_unit_prefix.specs.declared.Edition.{Edition}
 use Rattle.cdf_unit_list.specs.Units.{listing}
+use Rattle.cdf_unit_list.specs.Check.{Answer}
 use Rattle.cdf_grammar.specs.Trees.{Forest, none, tree, ids, units}
 use Rattle.cdf_grammar.specs.Published.{InGrammar}
 use Rattle.cdf_grammar.specs.Encoding.{Stream, encode, says}
@@ -21,41 +22,29 @@ use Rattle.cdf_reader_runs.specs.Runs.{afterwards}
 use Rattle.cdf_reader_runs.proofs.Proved as Reading
 use Rattle.cdf_builder_spec.specs.Place.{BuilderPlace, fits}
 use Rattle.cdf_builder_spec.specs.Requests.{Request, unit, bytesFor, completed}
-use Rattle.cdf_builder_spec.specs.Calls.{Reply, startOf, Finish, finishOf}
+use Rattle.cdf_builder_spec.specs.Calls.{Finish, finishOf}
 use Rattle.cdf_builder_spec.proofs.Fitting.{fitting}
-use Rattle.cdf_builder_runs.specs.Runs.{rootItem, run, AllDone, sizes, told, AllLent}
-use Rattle.cdf_builder_runs.specs.Telling.{Tells, Whole, Begins}
+use Rattle.cdf_builder_runs.specs.Runs.{rootItem, told, Lent, AllLent}
+use Rattle.cdf_builder_runs.specs.Building.{Building, andThen, layout, asked, count, size, first, last, finish, AllZero, Allowed}
+use Rattle.cdf_builder_runs.specs.Telling.{Tells, Whole, Begins, firstUnits}
 use Rattle.cdf_builder_runs.specs.Claims.{Holds, Builds}
-use Rattle.cdf_builder_runs.proofs.Answers.{first-done, run-length, run-place, run-fits}
+use Rattle.cdf_builder_runs.proofs.Answers.{first-done, run-length, run-place, run-fits, done-after, done-on}
 use Rattle.cdf_builder_runs.proofs.Forward.{forward, begins-admitted}
 use Rattle.cdf_builder_runs.proofs.Rooms.{sizes-on, run-written, Begun, begun, all-done}
 use Rattle.cdf_builder_runs.proofs.Kept.{KeptBy, kept-start, kept-run}
 use Rattle.cdf_builder_runs.proofs.Ending.{Ended, all-ended, begins-from}
 use Rattle.cdf_builder_runs.proofs.Said.{stream-says, told-says, told-once}
+use Rattle.cdf_builder_runs.proofs.FirstUnits.{length-says, front-first}
 
 -- Finish, at a place that fits.
 module _ (l : Layout) (n : ℕ) (p : BuilderPlace) (fit : fits l n p ≡ true) where
-  finish-is : finishOf l n p
-      ≡ cond (not (completed (p .units))) (record { number = 10; length = 0 }) (record { number = 0; length = p .written })
+  finish-whole : completed (p .units) ≡ true → finishOf l n p ≡ record { number = 0; length = p .written }
   unfolding finishOf
-  finish-is = rw fit
+  finish-whole full = rw (fit, full)
 
-  finish-zero : (finishOf l n p .number ≡ 0) ↔ (completed (p .units) ≡ true)
-  finish-zero = (λ e. go (completed (p .units)) (sym (ap (λ (f : Finish). f .number) finish-is) ∙ e), λ c. rw (finish-is, c))
-    where
-      go : (b : Bool) →
-          cond {A = Finish} (not b) (record { number = 10; length = 0 }) (record { number = 0; length = p .written }) .number ≡ 0 → b ≡ true
-      go true e = refl
-      go false e = absurd (omega (arith, e))
-
-  finish-length : completed (p .units) ≡ true → finishOf l n p .length ≡ p .written
-  finish-length c = rw (finish-is, c)
-
-length-says : (f : Forest) → length (says f) ≡ units f
-unfolding says units
-length-says none = refl
-length-says (tree id action text inner rest) =
-    rw (length-append (says inner) (says rest)) (omega (arith, length-says inner, length-says rest))
+  finish-lacks : completed (p .units) ≡ false → finishOf l n p ≡ record { number = 10; length = 0 }
+  unfolding finishOf
+  finish-lacks bare = rw (fit, bare)
 
 -- The root says something.
 says-some : (t : Forest) (id : ℕ) → ids t ≡ id ∷ [] → says t ≡ [] → ⊥
@@ -80,84 +69,123 @@ stream-holds e front t rs p tells =
     let l = layoutOf e in
     let items : itemsOf l front ≡ told l rs = stream-says e front t p ∙ told-says e t rs tells in
     let accepted = Grammar.proved .streams e .counted front t p in
+    let count : units t ≡ length (told l rs) = sym (length-says t) ∙ ap length (told-says e t rs tells) in
     let root = root-agrees t .0 (p .tree .root) in
     let some : listing l front .units ≡ [] → ⊥ =
     λ z. says-some t (root .0) (root .1) (sym (stream-says e front t p) ∙ none-listed l front z) in
     record {
       encoded = sym (p .bytes);
-      checked = rw (← items, stream-says e front t p, length-says t) accepted;
+      checked = accepted ∙ ap {B = Answer} (λ n. record { number = 0; value = n }) count;
       read = λ k. Reading.proved .reads l front some k ∙ rw (accepted, the-end);
       same = items;
     }
 
-module _ (e : Edition) (s : List ℕ) (id : ℕ) (rs : List Request) (lent : AllLent rs) where
+lent-on : (rs : List Request) (r : Request) → AllLent rs → Lent r → AllLent (rs ++ (r ∷ []))
+lent-on [] r lent more = (more, record {})
+lent-on (x ∷ rs) r lent more = (lent .0, lent-on rs r (lent .1) more)
+
+module _ (b : Building) where
   abbrev l : Layout
-  l = layoutOf e
+  l = layout b
 
-  abbrev first : Reply
-  first = startOf l s id
-
-  abbrev last : Reply
-  last = run l first rs
-
-  abbrev all : List Request
-  all = unit (rootItem id) ∷ rs
-
-  root-size : length (bytesFor l (unit (rootItem id))) ≡ prefixOf l
+  root-size : length (bytesFor l (unit (rootItem (b .root)))) ≡ prefixOf l
   unfolding bytesFor
-  root-size = length-unit l id 0 [] [] ∙ omega arith
+  root-size = length-unit l (b .root) 0 [] [] ∙ omega arith
 
-  module _ (done : AllDone l first rs) where
-    start : Begun l s id first
-    start = begun e s id (first-done l first rs done)
+  module _ (lent : AllLent (b .calls)) (done : AllZero b) where
+    start : Begun l (b .buffer) (b .root) (first b)
+    start = begun (b .edition) (b .buffer) (b .root) (first-done l (first b) (b .calls) done)
 
-    kept : KeptBy l s last all
-    kept = kept-run e s first (unit (rootItem id) ∷ []) rs lent (kept-start l s id (first-done l first rs done)) done
+    kept : KeptBy l (b .buffer) (last b) (asked b)
+    kept =
+        kept-run (b .edition) (b .buffer) (first b) (unit (rootItem (b .root)) ∷ []) (b .calls) lent
+        (kept-start l (b .buffer) (b .root) (first-done l (first b) (b .calls) done)) done
 
-    fit : fits l (length s) (last .place) ≡ true
-    fit = rw (run-length l first rs, start .long) at (run-fits l rs first (start .fit) done)
+    fit : fits l (length (b .buffer)) (last b .place) ≡ true
+    fit = rw (run-length l (first b) (b .calls), start .long) at (run-fits l (b .calls) (first b) (start .fit) done)
 
-    written : last .place .written ≡ sizes l all
-    written = run-written l rs first done ∙ rw (start .place, sizes-on, root-size)
+    pub written : last b .place .written ≡ size b
+    written = run-written l (b .calls) (first b) done ∙ rw (start .place, sizes-on, root-size)
 
-    begins : Begins l all
-    begins = let w = kept .spine in begins-from l (w .frames) (w .kids) (last .place .units) all (w .held) (w .conforms) (w .told)
+    abbrev front : List ℕ
+    front = take (last b .place .written) (last b .buffer)
 
-    ends : completed (last .place .units) ≡ true → Ended l all (take (last .place .written) (last .buffer))
-    ends full = all-ended l (last .place .written) (last .place .units) all (take (last .place .written) (last .buffer)) full (kept .spine)
+    begins : Begins l (asked b)
+    begins = let w = kept .spine in begins-from l (w .frames) (w .kids) (last b .place .units) (asked b) (w .held) (w .conforms) (w .told)
 
-    complete : Whole l all → completed (last .place .units) ≡ true
-    complete w = rw (run-place l first rs done, start .place) (forward e id rs w .2)
+    ends : completed (last b .place .units) ≡ true → Ended l (asked b) front
+    ends full = all-ended l (last b .place .written) (last b .place .units) (asked b) front full (kept .spine)
+
+    complete : Whole l (asked b) → completed (last b .place .units) ≡ true
+    complete w = rw (run-place l (first b) (b .calls) done, start .place) (forward (b .edition) (b .root) (b .calls) w .2)
 
     -- So finish answers 0 exactly where some tree is told as a whole.
-    whole-exactly : (finishOf l (length s) (last .place) .number ≡ 0) ↔ Whole l all
-    whole-exactly =
-        let finish = finish-zero l (length s) (last .place) fit in (
-          λ z. let w = ends (finish .0 z) in (w .told, w .grammar, w .tells),
-          λ w. finish .1 (complete w),
-        )
+    whole-answer : completed (last b .place .units) ≡ true → finish b ≡ record { number = 0; length = size b }
+    whole-answer full = finish-whole l (length (b .buffer)) (last b .place) fit full ∙ rw written
 
-    holds : (t : Forest) → InGrammar t → Tells l t all →
-        Holds l (take (finishOf l (length s) (last .place) .length) (last .buffer)) t all
+    full-by : finish b .number ≡ 0 → completed (last b .place .units) ≡ true
+    full-by z = go (completed (last b .place .units)) refl
+      where
+        go : (c : Bool) → completed (last b .place .units) ≡ c → completed (last b .place .units) ≡ true
+        go true e = e
+        go false e =
+            let ten = ap (λ (f : Finish). f .number) (finish-lacks l (length (b .buffer)) (last b .place) fit e) in
+            absurd (omega (arith, ten, z))
+
+    pub ends-by : finish b .number ≡ 0 → Ended l (asked b) front
+    ends-by z = ends (full-by z)
+
+    finished : (finish b ≡ record { number = 0; length = size b }) ↔ Whole l (asked b)
+    finished = (
+      λ z. let w = ends-by (ap (λ (f : Finish). f .number) z) in (w .told, w .grammar, w .tells),
+      λ w. whole-answer (complete w),
+    )
+
+    lacking : (Whole l (asked b) → ⊥) → finish b ≡ record { number = 10; length = 0 }
+    lacking bare = go (completed (last b .place .units)) refl
+      where
+        go : (c : Bool) → completed (last b .place .units) ≡ c → finish b ≡ record { number = 10; length = 0 }
+        go true e = let w = ends e in absurd (bare (w .told, w .grammar, w .tells))
+        go false e = finish-lacks l (length (b .buffer)) (last b .place) fit e
+
+    begun-front : (t : Forest) (more : List Request) → InGrammar t → Tells l t (asked b ++ more) →
+        take (size b) (last b .buffer) ≡ encode l (firstUnits t (count b))
+    begun-front t more grammar tells =
+        rw (← written) (front-first (b .edition) (last b .place .written) (last b .place .units) (rootItem (b .root)) (b .calls) front
+        (kept .spine) t more grammar tells)
+
+    holds : (t : Forest) → InGrammar t → Tells l t (asked b) → Holds l (take (finish b .length) (last b .buffer)) t (asked b)
     holds t grammar tells =
         let full = complete (t, grammar, tells) in
         let w = ends full in
-        let same : w .told ≡ t = told-once e (w .told) t all (w .grammar) grammar (w .tells) tells in
-        let limit = fitting l (length s) (last .place) fit .limit in
-        let bytes : take (last .place .written) (last .buffer) ≡ encode l t = w .bytes ∙ ap (encode l) same in
-        rw (finish-length l (length s) (last .place) fit full)
-        (stream-holds e (take (last .place .written) (last .buffer)) t all
-        (record { tree = grammar; within = simp length-take (omega (arith, limit)); bytes = sym bytes }) tells)
+        let same : w .told ≡ t = told-once (b .edition) (w .told) t (asked b) (w .grammar) grammar (w .tells) tells in
+        let limit = fitting l (length (b .buffer)) (last b .place) fit .limit in
+        rw (finish-whole l (length (b .buffer)) (last b .place) fit full)
+        (stream-holds (b .edition) front t (asked b)
+        (record { tree = grammar; within = simp length-take (omega (arith, limit)); bytes = sym (w .bytes ∙ ap (encode l) same) }) tells)
 
-  pub builds : Builds e s id rs
-  builds = record {
-    accepted = (
-      λ done. let room = all-done e s id rs .0 done in (begins done, rw (sizes-on, root-size) (room .2), rw (sizes-on, root-size) (room .3)),
-      λ w.
-          let may = begins-admitted e id rs (w .0) in
-          all-done e s id rs .1 (may .0, may .1, rw (sizes-on, root-size) at (w .1), rw (sizes-on, root-size) at (w .2)),
-    );
-    finished = λ done. whole-exactly done;
-    built = λ done. holds done;
-    behind = λ done. rw (← written done) (kept done .behind);
-  }
+  pub accepted : AllLent (b .calls) → AllZero b ↔ Allowed b
+  accepted lent =
+      let all = all-done (b .edition) (b .buffer) (b .root) (b .calls) in (
+        λ done.
+            let room = all .0 done in
+            (begins lent done, rw (sizes-on, root-size) (room .2), rw (sizes-on, root-size) (room .3)),
+        λ w.
+            let may = begins-admitted (b .edition) (b .root) (b .calls) (w .0) in
+            all .1 (may .0, may .1, rw (sizes-on, root-size) at (w .1), rw (sizes-on, root-size) at (w .2)),
+      )
+
+pub builds : (b : Building) → AllLent (b .calls) → AllZero b → Builds b
+builds b lent done = record {
+  next = λ r more.
+      let l = layout b in
+      let all = accepted (andThen b (r ∷ [])) (lent-on (b .calls) r lent more) in (
+        λ z. all .0 (done-on l (first b) (b .calls) r done z),
+        λ w. done-after l (first b) (b .calls) (r ∷ []) (all .1 w) .1,
+      );
+  begun = begun-front b lent done;
+  behind = rw (← written b lent done) (kept b lent done .behind);
+  finished = finished b lent done;
+  lacking = lacking b lent done;
+  built = holds b lent done;
+}

@@ -23,7 +23,7 @@ use Rattle.cdf_builder_spec.specs.declared.Begun.{Begun}
 use Rattle.cdf_builder_spec.specs.Place.{BuilderPlace}
 use Rattle.cdf_builder_spec.specs.Requests.{Request, unit, group, idOf, joined, advanced, entering, completed, refused, grown}
 use Rattle.cdf_builder_runs.specs.Telling.{Tells, Whole, Begins}
-use Rattle.cdf_builder_spec.proofs.Replying.{rootPlace}
+use Rattle.cdf_builder_spec.proofs.Replying.{rootPlace, entering-group}
 use Rattle.cdf_builder_runs.specs.Runs.{rootItem}
 use Rattle.cdf_builder_runs.proofs.Admitted.{Admitted, placeAfter, placeAfter-append, admitted-append, admitted-front}
 use Rattle.cdf_builder_runs.proofs.Shut.{Shut, shut-append, shut-below, shut-completed, joins, joined-on}
@@ -102,10 +102,6 @@ module _ (l : Layout) where
   entering-parent : (at : ℕ) (u : Item) → opens (u .id) ≡ true → entering at (unit u) ≡ record { state = nothing (u .id); start = at } ∷ []
   unfolding entering
   entering-parent at u e = rw e
-
-  entering-group : (at : ℕ) (g : List ℕ) → entering at (group g) ≡ []
-  unfolding entering
-  entering-group at g = refl
 
   -- From an open unit that admits the roots of these trees, the requests that tell of them lead to it, once it has had them.
   abbrev pub Goes : Forest → Type 0

@@ -1,6 +1,6 @@
 -- What runs keep: the place stands for the requests so far, the buffer's front for their bytes, and what is behind it stays.
 use Prim.Native.Nat.{ℕ, _+_, _-_, _≤_}
-use mathlib.Core.Path.{_≡_, refl, sym, subst, _∙_}
+use mathlib.Core.Path.{_≡_, refl, sym, ap, subst, _∙_}
 use mathlib.Core.Bool.{true}
 use mathlib.Core.List.{List, [], _∷_, _++_, map, append-nil, append-assoc}
 use mathlib.Core.Logic.{inl}
@@ -29,8 +29,8 @@ use Rattle.cdf_builder_spec.proofs.Replying.{grown-written, start-zero, start-n
 use Rattle.cdf_builder_runs.specs.Runs.{rootItem, answer, run, AllDone, Lent, AllLent}
 use Rattle.cdf_builder_runs.proofs.Answers.{answer-called, answer-place, answer-buffer, first-done}
 use Rattle.cdf_builder_runs.proofs.Forests.{append}
-use Rattle.cdf_builder_runs.proofs.Growing.{Frame, size, frameBytes, heads, length-heads}
-use Rattle.cdf_builder_runs.proofs.Spine.{Spine}
+use Rattle.cdf_builder_runs.proofs.Growing.{Frame, size, frameBytes, heads, length-heads, relength}
+use Rattle.cdf_builder_runs.proofs.Spine.{Spine, held-placed}
 use Rattle.cdf_builder_runs.proofs.Adding.{Step}
 use Rattle.cdf_builder_runs.proofs.Taken.{take-step}
 
@@ -86,7 +86,7 @@ module _ (l : Layout) (id : ℕ) (kind : rootKind id ≡ true) where
       }
 
 -- Bytes at the front, and what is behind them.
-front-put : (new s : List ℕ) → length new ≤ length s → patch 0 new s ≡ new ++ drop (length new) s
+pub front-put : (new s : List ℕ) → length new ≤ length s → patch 0 new s ≡ new ++ drop (length new) s
 front-put new s h =
     rw take-append-drop at (patch-in [] (take (length new) s) (drop (length new) s) new (length-take-le (length new) s h))
 
@@ -157,3 +157,16 @@ kept-run e s a rs (r ∷ more) lent k done =
     rw append-assoc at
     (kept-run e s next (rs ++ (r ∷ [])) more (lent .1)
     (kept-call e s a rs r (lent .0) k (first-done (layoutOf e) next more (done .1))) (done .1))
+
+-- The lengths of the open units are right as they stand.
+pub kept-settled : (l : Layout) (s : List ℕ) (p : BuilderPlace) (buffer : List ℕ) (rs : List Request) → Kept l s p buffer rs →
+    lengths l (map (stands (p .written)) (p .units)) buffer ≡ buffer
+kept-settled l s p buffer rs k =
+    let w = k .spine in
+    let back = drop (p .written) buffer in
+    let same : buffer ≡ heads l (p .written) (w .frames) ++ (encode l (w .kids) ++ back) =
+    sym (take-append-drop (p .written) buffer) ∙ ap (λ (x : List ℕ). x ++ back) (w .bytes)
+    ∙ append-assoc (heads l (p .written) (w .frames)) (encode l (w .kids)) back in
+    ap (lengths l (map (stands (p .written)) (p .units))) same
+    ∙ relength l (p .written) (p .written) (w .frames) (p .units) (encode l (w .kids) ++ back) (held-placed l (w .frames) (w .kids) (p .units) (w .held))
+    ∙ sym same

@@ -1,3 +1,4 @@
+pub mod Computed
 pub mod Admitted
 pub mod Shut
 pub mod Asked
@@ -13,5 +14,7 @@ pub mod Taken
 pub mod Kept
 pub mod Ending
 pub mod Said
+pub mod Low
+pub mod FirstUnits
 pub mod Building
 pub mod Proved

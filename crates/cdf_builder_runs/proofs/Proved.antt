@@ -5,8 +5,6 @@ use mathlib.Core.List.{List, [], _∷_, _++_, map, map-append}
 use mathlib.Core.Logic.{_↔_}
 use borrow.Author.Tests.{eqb-true, eqb-false}
 use lib.Dec.{eqb}
-use Rattle.cdf_unit_table.specs.States.{unitOf, admitsKind, skipped}
-use Rattle.cdf_reader_spec.specs.Place.{nested, every, positioned}
 use Rattle.cdf_unit_prefix.specs.Layout.{Layout, layoutOf}
 use Rattle.cdf_unit_prefix.specs.declared.Edition.{Edition}
 use Rattle.cdf_grammar.specs.Encoding.{Item}
@@ -15,12 +13,12 @@ use Rattle.cdf_builder_spec.specs.Calls.{Reply}
 use Rattle.cdf_builder_spec.proofs.Replying.{call-kept}
 use Rattle.cdf_builder_runs.specs.Runs.{answer, run, AllDone, done, told}
 use Rattle.cdf_builder_runs.specs.Telling.{Begins, BeginUnits}
-use Rattle.cdf_builder_runs.specs.Samples.{building}
 use Rattle.cdf_builder_runs.specs.Claims.{Claims}
 use Rattle.cdf_builder_runs.proofs.Answers.{answer-is}
 use Rattle.cdf_builder_runs.proofs.Ending.{tells-units}
 use Rattle.cdf_builder_runs.proofs.Said.{told-says, told-units, told-append}
-use Rattle.cdf_builder_runs.proofs.Building.{builds}
+use Rattle.cdf_builder_runs.proofs.Building.{accepted, builds}
+use Rattle.cdf_builder_runs.proofs.Computed.{computed}
 
 plain : (e : Edition) (us : List Item) → Begins (layoutOf e) (map unit us) ↔ BeginUnits us
 plain e us =
@@ -73,10 +71,10 @@ module _ (l : Layout) where
           (stay .0, (same .0 ∙ stay .1 .0, same .1 ∙ stay .1 .1))
 
 pub proved : Claims
-unfolding building nested unitOf every skipped positioned admitsKind
 proved = record {
-  samples = refl;
+  accepted = accepted;
   builds = builds;
-  plain = plain;
   refusals = λ l a z rs. let w = refusals l a z rs in (w .0, w .1 .0, w .1 .1);
+  plain = plain;
+  samples = computed;
 }

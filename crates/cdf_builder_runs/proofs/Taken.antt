@@ -15,7 +15,7 @@ use Rattle.cdf_builder_spec.specs.Place.{BuilderPlace}
 use Rattle.cdf_builder_spec.specs.Requests.{Request, unit, group, idOf, bytesFor, joining, advanced, entering, grown, refused}
 use Rattle.cdf_builder_spec.specs.declared.Begun.{Begun}
 use Rattle.cdf_builder_spec.proofs.Joining.{Joins}
-use Rattle.cdf_builder_spec.proofs.Replying.{grown-written, bytes-unit}
+use Rattle.cdf_builder_spec.proofs.Replying.{grown-written, bytes-unit, entering-unit, entering-group}
 use Rattle.cdf_builder_runs.specs.Runs.{Lent}
 use Rattle.cdf_builder_runs.proofs.Spine.{Spine, shut-inner}
 use Rattle.cdf_builder_runs.proofs.Adding.{Step, add-tree, add-open}
@@ -39,22 +39,27 @@ unfolding opens
 opens-some id o z = let f : false ≡ true = rw z at o in absurd (false≢true f)
 
 -- The units that are open after a request which joins `o`.
+pub grown-by : (l : Layout) (p : BuilderPlace) (r : Request) (o : Begun) (outer : List Begun) → joining (idOf l r) (p .units) ≡ o ∷ outer →
+    grown l p r .units ≡ entering (p .written) r ++ (record { state = admit (o .state) (idOf l r); start = o .start } ∷ outer)
+unfolding grown advanced
+grown-by l p r o outer j = rw j
+
 module _ (l : Layout) (p : BuilderPlace) (o : Begun) (outer : List Begun) where
   abbrev hadBy : ℕ → List Begun
   hadBy id = record { state = admit (o .state) id; start = o .start } ∷ outer
 
-  units-open : (u : Item) → opens (u .id) ≡ true → joining (u .id) (p .units) ≡ o ∷ outer →
+  pub units-open : (u : Item) → opens (u .id) ≡ true → joining (u .id) (p .units) ≡ o ∷ outer →
       grown l p (unit u) .units ≡ record { state = nothing (u .id); start = p .written } ∷ hadBy (u .id)
-  unfolding grown idOf entering advanced
-  units-open u e j = rw (j, e)
+  unfolding idOf
+  units-open u e j = grown-by l p (unit u) o outer j ∙ rw (entering-unit (p .written) u, e)
 
   units-leaf : (u : Item) → opens (u .id) ≡ false → joining (u .id) (p .units) ≡ o ∷ outer → grown l p (unit u) .units ≡ hadBy (u .id)
-  unfolding grown idOf entering advanced
-  units-leaf u e j = rw (j, e)
+  unfolding idOf
+  units-leaf u e j = grown-by l p (unit u) o outer j ∙ rw (entering-unit (p .written) u, e)
 
   pub units-group : (g : List ℕ) → joining (idAt l g) (p .units) ≡ o ∷ outer → grown l p (group g) .units ≡ hadBy (idAt l g)
-  unfolding grown idOf entering advanced
-  units-group g j = rw j
+  unfolding idOf
+  units-group g j = grown-by l p (group g) o outer j ∙ rw (entering-group (p .written) g)
 
 -- The step that a request comes to.
 abbrev pub StepBy : Layout → BuilderPlace → List Request → List ℕ → Request → Type 0

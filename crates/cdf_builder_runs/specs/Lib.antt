@@ -1,4 +1,5 @@
 pub mod Runs
 pub mod Telling
+pub mod Building
 pub mod Samples
 pub mod Claims

@@ -3,12 +3,13 @@
 use Prim.Native.Nat.{ℕ, zero, suc}
 use mathlib.Core.List.{List, [], _∷_, _++_}
 use Rattle.cdf_unit_table.specs.Ids.{stream, call, erGroup, template, temporaryKey, field}
-use Rattle.cdf_unit_prefix.specs.Layout.{layoutOf}
+use Rattle.cdf_unit_prefix.specs.Layout.{Layout}
 use Rattle.cdf_unit_prefix.specs.declared.Edition.the-variants.{First}
 use Rattle.cdf_unit_list.specs.Samples.{k2}
 use Rattle.cdf_builder_spec.specs.Requests.{Request, unit, group}
 use Rattle.cdf_builder_spec.specs.Calls.{Reply, startOf, Finish, finishOf}
 use Rattle.cdf_builder_runs.specs.Runs.{answer, run}
+use Rattle.cdf_builder_runs.specs.Building.{Building, layout, first, last, finish}
 
 -- A buffer of n bytes, all 255.
 unfoldable pub blank : ℕ → List ℕ
@@ -16,12 +17,12 @@ blank zero = []
 blank (suc n) = 255 ∷ blank n
 
 -- The numbers of a start and of the calls after it.
-unfoldable pub numbers : Reply → List Request → List ℕ
+unfoldable pub numbers : Layout → Reply → List Request → List ℕ
 unfolding answer
-numbers a [] = a .number ∷ []
-numbers a (r ∷ rs) = a .number ∷ numbers (answer (layoutOf First) a r) rs
+numbers l a [] = a .number ∷ []
+numbers l a (r ∷ rs) = a .number ∷ numbers l (answer l a r) rs
 
--- What comes of a run: the numbers, what finish answers, and the buffer.
+-- What is built comes to this: the numbers, what finish answers, and the buffer.
 pub record Outcome : Type 0 where
   pub numbers : List ℕ
   pub finish : Finish
@@ -30,13 +31,12 @@ pub record Outcome : Type 0 where
 abbrev outcome : List ℕ → ℕ → ℕ → List ℕ → Outcome
 outcome ns n len buffer = record { numbers = ns; finish = record { number = n; length = len }; buffer = buffer }
 
--- Of a start with this id on a buffer of n bytes.
+-- A start with this id on a buffer of n bytes, and these calls.
 unfoldable pub building : ℕ → ℕ → List Request → Outcome
 unfolding numbers blank startOf run finishOf
 building n id rs =
-    let a : Reply = startOf (layoutOf First) (blank n) id in
-    let b : Reply = run (layoutOf First) a rs in
-    record { numbers = numbers a rs; finish = finishOf (layoutOf First) n (b .place); buffer = b .buffer }
+    let b : Building = record { edition = First; buffer = blank n; root = id; calls = rs } in
+    record { numbers = numbers (layout b) (first b) rs; finish = finish b; buffer = last b .buffer }
 
 abbrev ask : ℕ → ℕ → List ℕ → Request
 ask id action text = unit (record { id = id; action = action; text = text })

@@ -1,11 +1,11 @@
 -- Which requests a tree of the published grammar is built by. Rows, places and the builder's steps are not mentioned.
-use Prim.Native.Nat.{ℕ}
+use Prim.Native.Nat.{ℕ, zero, suc, _-_}
 use mathlib.Core.Path.{_≡_}
 use mathlib.Core.Logic.{_⊎_}
 use mathlib.Core.List.{List, [], _∷_, _++_}
 use Rattle.cdf_unit_table.specs.Ids.{erGroup, fileGroup}
 use Rattle.cdf_unit_prefix.specs.Layout.{Layout}
-use Rattle.cdf_grammar.specs.Trees.{Forest, none, tree}
+use Rattle.cdf_grammar.specs.Trees.{Forest, none, tree, units}
 use Rattle.cdf_grammar.specs.Published.{Among, InGrammar}
 use Rattle.cdf_grammar.specs.Encoding.{Stream, Item, says}
 use Rattle.cdf_builder_spec.specs.Requests.{Request, unit, group}
@@ -31,3 +31,11 @@ Begins l rs = (more : List Request) × Whole l (rs ++ more)
 -- Of units alone: they are the first that some tree says.
 abbrev pub BeginUnits : List Item → Type 0
 BeginUnits us = (t : Forest) × (more : List Item) × InGrammar t × (says t ≡ us ++ more)
+
+-- The first n units of trees, each before those nested in it: the trees without the units that come later.
+unfoldable pub firstUnits : Forest → ℕ → Forest
+unfolding units
+firstUnits none n = none
+firstUnits (tree id action text inner rest) zero = none
+firstUnits (tree id action text inner rest) (suc n) =
+    tree id action text (firstUnits inner n) (firstUnits rest (n - units inner))
