@@ -35,7 +35,7 @@ one-kept : {u : Unit} (xs acc : List Unit) → OneOf u acc → OneOf u (reverseA
 one-kept [] acc h = h
 one-kept (x ∷ xs) acc h = one-kept xs (x ∷ acc) (there h)
 
-one-turned : {u : Unit} {xs : List Unit} (acc : List Unit) → OneOf u xs → OneOf u (reverseAux xs acc)
+pub one-turned : {u : Unit} {xs : List Unit} (acc : List Unit) → OneOf u xs → OneOf u (reverseAux xs acc)
 one-turned {u} acc (here {us = us}) = one-kept us (u ∷ acc) here
 one-turned acc (there {v = v} h) = one-turned (v ∷ acc) h
 

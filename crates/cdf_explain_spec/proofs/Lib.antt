@@ -3,4 +3,8 @@ pub mod Stands
 pub mod Ids
 pub mod Inwards
 pub mod Told
+pub mod Members
+pub mod Last
+pub mod Surrounding
+pub mod Admitted
 pub mod Proved

@@ -3,6 +3,8 @@ use mathlib.Core.Path.{_≡_, refl}
 use Rattle.cdf_explain_spec.specs.Samples.{samplesFound, samplesDue}
 use Rattle.cdf_explain_spec.specs.Claims.{Claims}
 use Rattle.cdf_explain_spec.proofs.Told.{accepted, refused-same, listed-open, inside, four, refused-start, ten}
+use Rattle.cdf_explain_spec.proofs.Surrounding.{told-open, last-incomplete}
+use Rattle.cdf_explain_spec.proofs.Admitted.{ids-rise, nested-ids, root-ids}
 
 samples : samplesFound ≡ samplesDue
 unfolding samplesFound
@@ -16,6 +18,11 @@ proved = record {
   listed = listed-open;
   inside = inside;
   four = four;
+  told = told-open;
+  incomplete = last-incomplete;
+  rising = ids-rise;
+  nested = nested-ids;
+  rooted = root-ids;
   start = refused-start;
   ten = ten;
 }

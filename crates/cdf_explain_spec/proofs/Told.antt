@@ -5,6 +5,7 @@ use mathlib.Core.Bool.{Bool, true, false}
 use mathlib.Core.List.{List, [], _∷_, map, reverse}
 use native.Mathlib.Omega.{arith}
 use lib.ListN.{length, take, drop, length-map, length-reverse}
+use Rattle.cdf_unit_table.specs.Ids.{idsEnd}
 use Rattle.cdf_unit_table.specs.States.{rootKind}
 use Rattle.cdf_unit_table.specs.Tables.{those}
 use Rattle.cdf_unit_prefix.specs.Layout.{Layout}
@@ -112,11 +113,18 @@ module _ (l : Layout) (s : List ℕ) where
   start-fault (breaks {n} {at}) none j q = (n, at, refl)
   start-fault (hands run) none j q = let z : _≡_ {A = ℕ} 0 1 = cc in absurd (omega arith)
 
+  -- So it tells a root's ids,
+  start-is : listing l s .units ≡ [] → (whyOf l s .units ≡ []) × (whyOf l s .ids ≡ those rootKind idsEnd)
+  unfolding whyAfter openAround admittedBy
+  start-is none = let f = start-fault (listed l s) none (judgeOf l true 0 s) refl in rw (why-after l s [] none, f .2) (refl, refl)
+
+  pub refused-ids : listing l s .units ≡ [] → whyOf l s .ids ≡ those rootKind idsEnd
+  refused-ids none = start-is none .1
+
+  -- which are these.
   pub refused-start : listing l s .units ≡ [] → (whyOf l s .units ≡ []) × (whyOf l s .ids ≡ 1 ∷ 4 ∷ 13 ∷ [])
-  unfolding whyAfter openAround admittedBy rootKind those
-  refused-start none =
-      let f = start-fault (listed l s) none (judgeOf l true 0 s) refl in
-      rw (why-after l s [] none, f .2) (refl, refl)
+  unfolding rootKind those
+  refused-start none = let w = start-is none in (w .0, w .1)
 
   -- Number 10 comes of closing alone.
   judged-never : (pos at : ℕ) (around : ℕ → List Open) (root : Bool) (state : ℕ) (t : List ℕ) →

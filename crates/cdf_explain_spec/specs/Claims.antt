@@ -1,10 +1,18 @@
 -- What is claimed of what the tool tells. The term of this record stands in proofs/Proved.
-use Prim.Native.Nat.{ℕ, _≤_, _<_}
+use Prim.Native.Nat.{ℕ, suc, _≤_, _<_}
 use mathlib.Core.Path.{_≡_}
-use mathlib.Core.List.{List, [], _∷_}
+use mathlib.Core.Bool.{true, false}
+use mathlib.Core.List.{List, [], _∷_, _++_, reverse}
+use mathlib.Core.Logic.{_⊎_, _↔_}
 use lib.ListN.{length}
+use Rattle.cdf_unit_table.specs.Ids.{member}
+use Rattle.cdf_unit_table.specs.States.{opens}
 use Rattle.cdf_unit_prefix.specs.Layout.{Layout}
-use Rattle.cdf_unit_list.specs.Units.{listing}
+use Rattle.cdf_unit_prefix.specs.Rules.{headOf}
+use Rattle.cdf_unit_prefix.specs.declared.Header.the-variants.{Prefix}
+use Rattle.cdf_unit_judge.specs.Judge.{judgeOf}
+use Rattle.cdf_unit_judge.specs.declared.Judged.the-variants.{Fault}
+use Rattle.cdf_unit_list.specs.Units.{after, stateOf, listing}
 use Rattle.cdf_unit_list.specs.Check.{checkOf}
 use Rattle.cdf_unit_list.specs.declared.Unit.{Unit}
 use Rattle.cdf_explain_spec.specs.Why.{nothingWrong, whyOf}
@@ -26,6 +34,38 @@ abbrev pub Each : (Unit → Type 0) → List Unit → Type 0
 Each P [] = record {}
 Each P (u ∷ us) = P u × Each P us
 
+abbrev pub Refused : Layout → List ℕ → Type 0
+Refused l s = checkOf l s .number ≡ 0 → ⊥
+
+-- Where the refused unit stands or would stand: behind the last listed unit, and at the front where none is listed. At 10 it is where the
+-- incomplete unit ends.
+abbrev pub behind : List Unit → ℕ
+behind [] = 0
+behind (u ∷ us) = after u
+
+abbrev pub pointOf : Layout → List ℕ → ℕ
+pointOf l s = behind (reverse (listing l s .units))
+
+-- The unit is or lies around what goes from `start` to `end`.
+abbrev pub Spans : ℕ → ℕ → Unit → Type 0
+Spans start end u = (u .start ≤ start) × (end ≤ u .end)
+
+-- A listed unit that admits others is open at the point: it starts before it and ends behind it; or the check gives 10, and the unit is or lies
+-- around the incomplete one, which starts at the offset.
+abbrev pub OpenAt : Layout → List ℕ → ℕ → Unit → Type 0
+OpenAt l s point u =
+    OneOf u (listing l s .units) × (opens (u .id) ≡ true) × (u .start < point)
+    × ((point < u .end) ⊎ ((checkOf l s .number ≡ 10) × Spans (checkOf l s .value) point u))
+
+-- The unit is the last of these.
+abbrev pub Last : Unit → List Unit → Type 0
+Last u us = (outer : List Unit) × (us ≡ outer ++ (u ∷ []))
+
+-- The numbers rise, from a on and below b.
+abbrev pub Rising : ℕ → ℕ → List ℕ → Type 0
+Rising a b [] = a ≤ b
+Rising a b (x ∷ xs) = (a ≤ x) × Rising (suc x) b xs
+
 pub record Claims : Type 0 where
   -- K1 to K12 and three more, computed.
   pub samples : samplesFound ≡ samplesDue
@@ -38,6 +78,20 @@ pub record Claims : Type 0 where
   pub listed : (l : Layout) (s : List ℕ) → Each (λ u. OneOf u (listing l s .units)) (whyOf l s .units)
   pub inside : (l : Layout) (s : List ℕ) → Inwards (whyOf l s .units)
   pub four : (l : Layout) (s : List ℕ) → length (whyOf l s .units) ≤ 4
+  -- Of refused bytes a unit is told exactly if it is open at the point,
+  pub told : (l : Layout) (s : List ℕ) → Refused l s → (u : Unit) → OneOf u (whyOf l s .units) ↔ OpenAt l s (pointOf l s) u
+  -- and at 10 the last of them is the incomplete one: it starts at the offset, and ends at the point.
+  pub incomplete : (l : Layout) (s : List ℕ) → checkOf l s .number ≡ 10 →
+      (u : Unit) × Last u (whyOf l s .units) × (u .start ≡ checkOf l s .value) × (u .end ≡ pointOf l s)
+  -- The ids rise, and are of 1 to 14.
+  pub rising : (l : Layout) (s : List ℕ) → Rising 1 15 (whyOf l s .ids)
+  -- An id is told exactly if a unit of it would not get 7 there: so any bytes that pass 3 to 6, judged in the last of the open units,
+  pub nested : (l : Layout) (s : List ℕ) (o : Unit) → Last o (whyOf l s .units) → (t : List ℕ) (id action len : ℕ) →
+      headOf l false t ≡ Prefix id action len →
+      (judgeOf l false (stateOf (reverse (listing l s .units)) o) t ≡ Fault 7 0) ↔ (member id (whyOf l s .ids) ≡ false)
+  -- and where the start is refused, judged as a root.
+  pub rooted : (l : Layout) (s : List ℕ) → listing l s .units ≡ [] → (t : List ℕ) (id action len : ℕ) → headOf l true t ≡ Prefix id action len →
+      (judgeOf l true 0 t ≡ Fault 7 0) ↔ (member id (whyOf l s .ids) ≡ false)
   -- Of a refused start nothing is open, and the ids that a root may have are told.
   pub start : (l : Layout) (s : List ℕ) → listing l s .units ≡ [] →
       (whyOf l s .units ≡ []) × (whyOf l s .ids ≡ 1 ∷ 4 ∷ 13 ∷ [])
