@@ -7,7 +7,7 @@ use native.Mathlib.Omega.{arith}
 use borrow.Author.Tests.{le-leb, lt-leb}
 use lib.ListN.{length}
 use lib.Seq.{sets-eq}
-use Rattle.cdf_listing.specs.Put.{Put}
+use Rattle.cdf_listing_lines.specs.Put.{Put}
 use Rattle.cdf_listing.specs.Written.{writtenOf, bufferOf}
 
 module _ (text buffer : List ℕ) where

@@ -1,4 +1,3 @@
-pub mod Putting
 pub mod Lining
 pub mod Answered
 pub mod Filled

@@ -1,5 +1,5 @@
 -- The lines of the units in the buffer, turn by turn.
-use Prim.Native.Nat.{ℕ, _≤_, _<_}
+use Prim.Native.Nat.{ℕ, _^_, _≤_, _<_}
 use mathlib.Core.Path.{_≡_, ap}
 use mathlib.Core.List.{List, [], _++_}
 use native.Mathlib.Omega.{arith}
@@ -15,8 +15,8 @@ use Rattle.cdf_listing_spec.specs.Text.{lineOf, listedLines}
 use Rattle.cdf_listing_spec.proofs.Deep.{depthIn}
 use Rattle.cdf_listing_spec.proofs.Short.{listed-short}
 use Rattle.cdf_listing_spec.proofs.Going.{Going, begun, lineIn, Turn, turn, over}
-use Rattle.cdf_listing.specs.Put.{Room, Put}
-use Rattle.cdf_listing.proofs.Putting.{nothing-put, put-both}
+use Rattle.cdf_listing_lines.specs.Put.{Put}
+use Rattle.cdf_listing_lines.proofs.Putting.{nothing-put, put-both}
 
 -- The line of the unit that an answer hands out.
 abbrev pub lineBy : Answer → List ℕ
@@ -45,6 +45,10 @@ module _ (s : List ℕ) where
       Put before 0 (listedLines (layoutOf First) s) after at
   lined-over {a = a} w some = rw (over (layoutOf First) s (replyOf a) (w .text) (w .going) some) (w .put)
 
+  -- Behind all lines a place is still near the front.
+  pub lines-near : {before after : List ℕ} {at : ℕ} → Put before 0 (listedLines (layoutOf First) s) after at → at < 2 ^ 32
+  lines-near p = omega (arith, listed-short s, p .next)
+
   -- A unit was handed out.
   module _ {before after : List ℕ} {a : Answer} {at : ℕ} (w : Lined before a after at) (z : a .number ≡ 0) where
     here : Turn (layoutOf First) s (replyOf a) (w .text)
@@ -53,10 +57,11 @@ module _ (s : List ℕ) where
     pub lined-few : a .place .count ≤ 4
     lined-few = rw length-open at (here .few)
 
-    pub lined-room : Room at (lineBy a) × (a .unit .start ≤ a .unit .end)
-    lined-room =
-        let all = listed-short s in
-        (record { held = omega (arith, w .put .next, simp length-append at (ap length (rw (line-by a) at (here .part .1)))) }, here .ordered)
+    pub lined-ordered : a .unit .start ≤ a .unit .end
+    lined-ordered = here .ordered
+
+    pub lined-near : at < 2 ^ 32
+    lined-near = omega (arith, listed-short s, w .put .next, simp length-append at (ap length (here .part .1)))
 
     pub lined-next : (r : Answer) → replyOf r ≡ nextOf (layoutOf First) s (view (a .place)) → {more : List ℕ} {next : ℕ} →
         Put after at (lineBy a) more next → Lined before r more next

@@ -1,11 +1,11 @@
 -- The text by the case of the check's answer.
 use mathlib.Core.Path.{sym, _∙_}
-use native.Mathlib.Omega.{arith}
 use borrow.Author.Needs.{needs}
 use Rattle.cdf_unit_prefix.specs.Layout.{layoutOf}
 use Rattle.cdf_unit_prefix.specs.declared.Edition.the-variants.{First}
-use Rattle.cdf_listing.proofs.Answered.{accepted, turned-down, ok-room, refused-room}
-use Rattle.cdf_listing.proofs.Putting.{put-both}
+use Rattle.cdf_listing.proofs.Lining.{lines-near}
+use Rattle.cdf_listing.proofs.Answered.{accepted, turned-down}
+use Rattle.cdf_listing_lines.proofs.Putting.{put-both}
 use Rattle.cdf_listing.proofs.put_listing.Statement.{statement}
 use Rattle.cdf_listing.proofs.put_listing.Tie as tie
 
@@ -18,19 +18,17 @@ enum-known-units c = search needs
 put-units-requires : tie.Need-put-units-requires
 put-units-requires c κs = search needs
 
+cast-put-ok : tie.Need-cast-put-ok
+cast-put-ok c = let near = lines-near _ (c .before .before .before .put-units .ensures) in search needs
+
 put-ok-requires : tie.Need-put-ok-requires
-put-ok-requires c κs =
-    let lines = c .before .before .before in
-    let told = lines .before .before .before in
-    let start = told .before .before .before .before .before in
-    ok-room (start .args .s .now) (told .units .given .0 .0) (omega arith) (lines .put-units .ensures)
+put-ok-requires c κs = search needs
 
 enum-known-number : tie.Need-enum-known-number
 enum-known-number c = search needs
 
 put-refused-requires : tie.Need-put-refused-requires
-put-refused-requires c κs =
-    let told = c .before .before .number .given .0 in refused-room (told .0) (told .1 .0) (omega arith) (omega arith)
+put-refused-requires c κs = search needs
 
 same-length : tie.Need-same-length
 same-length c = search needs
@@ -65,6 +63,7 @@ put-listing-spec =
     check-requires
     enum-known-units
     put-units-requires
+    cast-put-ok
     put-ok-requires
     enum-known-number
     put-refused-requires

@@ -3,8 +3,9 @@ use borrow.Author.Needs.{needs}
 use Rattle.cdf_unit_prefix.specs.Layout.{layoutOf}
 use Rattle.cdf_unit_prefix.specs.declared.Edition.the-variants.{First}
 use Rattle.cdf_reader_runs.proofs.Further.{ahead}
-use Rattle.cdf_listing.proofs.Putting.{put-length}
-use Rattle.cdf_listing.proofs.Lining.{Lined, lined-first, lined-over, lined-few, lined-room, lined-next, lined-less}
+use Rattle.cdf_listing_spec.specs.Text.{lineOf}
+use Rattle.cdf_listing_lines.proofs.Putting.{put-length}
+use Rattle.cdf_listing.proofs.Lining.{Lined, lined-first, lined-over, lined-few, lined-ordered, lined-near, lined-next, lined-less}
 use Rattle.cdf_listing.proofs.put_units.Statement.{statement}
 use Rattle.cdf_listing.proofs.put_units.Tie as tie
 
@@ -25,23 +26,32 @@ depth-of-requires : tie.Need-depth-of-requires Inv-loop μ-loop
 depth-of-requires c κs =
     let more = c .before .before in lined-few _ (more .before .before .loop .inv) (more .if1 .taken)
 
+sub-size : tie.Need-sub-size Inv-loop μ-loop
+sub-size c =
+    let more = c .before .before .before .before in lined-ordered _ (more .before .before .loop .inv) (more .if1 .taken)
+
+cast-put-line : tie.Need-cast-put-line Inv-loop μ-loop
+cast-put-line c =
+    let more = c .before .before .before .before .before in
+    let near = lined-near _ (more .before .before .loop .inv) (more .if1 .taken) in
+    search needs
+
 put-line-requires : tie.Need-put-line-requires Inv-loop μ-loop
-put-line-requires c κs =
-    let more = c .before .before .before .before in
-    rw (c .before .depth-of .ensures) (lined-room _ (more .before .before .loop .inv) (more .if1 .taken))
+put-line-requires c κs = search needs
 
 next-requires : tie.Need-next-requires Inv-loop μ-loop
 next-requires c κs = search needs
 
 loop-less : tie.Need-loop-less Inv-loop μ-loop
 loop-less c =
-    let more = c .before .before .before .before .before .before .before .before in
+    let more = c .before .before .before .before .before .before .before .before .before in
     lined-less _ (more .before .before .loop .inv) (more .if1 .taken) (c .next .result) (c .next .ensures .0)
 
 loop-again : tie.Need-loop-again Inv-loop μ-loop
+unfolding lineOf
 loop-again c =
     let line = c .before .before .before in
-    let depth = line .before .before in
+    let depth = line .before .before .before in
     let more = depth .before .before .before in
     lined-next _ (more .before .before .loop .inv) (more .if1 .taken) (c .next .result) (c .next .ensures .0)
     (rw (depth .depth-of .ensures) at (line .put-line .ensures))
@@ -61,6 +71,8 @@ put-units-spec =
     first-requires
     loop-holds
     depth-of-requires
+    sub-size
+    cast-put-line
     put-line-requires
     next-requires
     loop-less

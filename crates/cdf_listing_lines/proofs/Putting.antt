@@ -7,7 +7,7 @@ use native.Mathlib.Numerals.{add-one}
 use native.Mathlib.Omega.{arith}
 use lib.ListN.{length, getD, take, length-append}
 use lib.Seq.{sets, length-sets, length-take-le, take-suc}
-use Rattle.cdf_listing.specs.Put.{Room, Put}
+use Rattle.cdf_listing_lines.specs.Put.{Room, Put}
 
 sets-append : (xs ys l : List ℕ) (at : ℕ) → sets l at (xs ++ ys) ≡ sets (sets l at xs) (at + length xs) ys
 sets-append [] ys l at = rw add-zero

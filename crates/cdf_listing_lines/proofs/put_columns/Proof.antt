@@ -1,9 +1,9 @@
 -- A call is named by what it puts: `start`, `depth`, `id`, `action`.
 use borrow.Author.Needs.{needs}
 use Rattle.cdf_listing_spec.specs.Text.{columns}
-use Rattle.cdf_listing.proofs.Putting.{put-both, room-first, room-then}
-use Rattle.cdf_listing.proofs.put_columns.Statement.{statement}
-use Rattle.cdf_listing.proofs.put_columns.Tie as tie
+use Rattle.cdf_listing_lines.proofs.Putting.{put-both, room-first, room-then}
+use Rattle.cdf_listing_lines.proofs.put_columns.Statement.{statement}
+use Rattle.cdf_listing_lines.proofs.put_columns.Tie as tie
 
 put-number-requires : tie.Need-put-number-requires
 unfolding columns

@@ -3,9 +3,9 @@ use mathlib.Core.Logic.{⊎-elim}
 use borrow.Author.Needs.{needs}
 use native.Mathlib.Omega.{arith}
 use lib.Seq.{set-out}
-use Rattle.cdf_listing.proofs.Putting.{put-length}
-use Rattle.cdf_listing.proofs.put_byte.Statement.{statement}
-use Rattle.cdf_listing.proofs.put_byte.Tie as tie
+use Rattle.cdf_listing_lines.proofs.Putting.{put-length}
+use Rattle.cdf_listing_lines.proofs.put_byte.Statement.{statement}
+use Rattle.cdf_listing_lines.proofs.put_byte.Tie as tie
 
 slice-write-out : tie.Need-slice-write-out
 slice-write-out c = search needs

@@ -1,8 +1,8 @@
 use borrow.Author.Needs.{needs}
 use Rattle.cdf_listing_spec.specs.Text.{number}
-use Rattle.cdf_listing.proofs.Putting.{put-both, room-first, room-then}
-use Rattle.cdf_listing.proofs.put_number.Statement.{statement}
-use Rattle.cdf_listing.proofs.put_number.Tie as tie
+use Rattle.cdf_listing_lines.proofs.Putting.{put-both, room-first, room-then}
+use Rattle.cdf_listing_lines.proofs.put_number.Statement.{statement}
+use Rattle.cdf_listing_lines.proofs.put_number.Tie as tie
 
 put-decimal-requires : tie.Need-put-decimal-requires
 unfolding number

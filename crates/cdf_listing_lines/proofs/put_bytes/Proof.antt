@@ -4,10 +4,10 @@ use native.Mathlib.Omega.{arith}
 use borrow.Author.Needs.{needs}
 use lib.ListN.{length, take}
 use lib.Seq.{take-all}
-use Rattle.cdf_listing.specs.Put.{Put}
-use Rattle.cdf_listing.proofs.Putting.{nothing-put, put-length, put-more, put-room}
-use Rattle.cdf_listing.proofs.put_bytes.Statement.{statement}
-use Rattle.cdf_listing.proofs.put_bytes.Tie as tie
+use Rattle.cdf_listing_lines.specs.Put.{Put}
+use Rattle.cdf_listing_lines.proofs.Putting.{nothing-put, put-length, put-more, put-room}
+use Rattle.cdf_listing_lines.proofs.put_bytes.Statement.{statement}
+use Rattle.cdf_listing_lines.proofs.put_bytes.Tie as tie
 
 abbrev Inv-loop : tie.InvT-loop
 Inv-loop out₀ at bytes i₀ next₀ out i next = Put out₀ at (take i bytes) out next × (i ≤ length bytes)

@@ -4,13 +4,13 @@ use native.Mathlib.Omega.{arith}
 use borrow.Fn.Kinds.{In}
 use borrow.Fn.PlainCycle.{Measures, is, falls, and}
 use Rattle.cdf_listing_spec.proofs.Digits.{decimal-digit, decimal-more}
-use Rattle.cdf_listing.proofs.Putting.{put-both, put-length, room-first, room-then}
-use Rattle.cdf_listing.proofs.put_decimal.Reads as reads
-use Rattle.cdf_listing.proofs.put_decimal.Kinds as kinds
-use Rattle.cdf_listing.proofs.+put_decimal.Lts-put_decimal as lts
-use Rattle.cdf_listing.proofs.put_digit.Reads as put-digit-reads
-use Rattle.cdf_listing.proofs.+put_decimal.{statement}
-use Rattle.cdf_listing.proofs.+put_decimal.Tie.{close}
+use Rattle.cdf_listing_lines.proofs.Putting.{put-both, put-length, room-first, room-then}
+use Rattle.cdf_listing_lines.proofs.put_decimal.Reads as reads
+use Rattle.cdf_listing_lines.proofs.put_decimal.Kinds as kinds
+use Rattle.cdf_listing_lines.proofs.+put_decimal.Lts-put_decimal as lts
+use Rattle.cdf_listing_lines.proofs.put_digit.Reads as put-digit-reads
+use Rattle.cdf_listing_lines.proofs.+put_decimal.{statement}
+use Rattle.cdf_listing_lines.proofs.+put_decimal.Tie.{close}
 
 abbrev μ-number : Measures 1 kinds.ps ℕ
 μ-number κs a = a .1 .1 .0

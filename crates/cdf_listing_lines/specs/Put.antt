@@ -1,4 +1,4 @@
--- What the functions named put_.. do, for their private contracts.
+-- What the functions named put_.. do, and what the private ones ask.
 use Prim.Native.Nat.{ℕ, _+_, _^_, _<_}
 use mathlib.Core.Path.{_≡_}
 use mathlib.Core.List.{List}
