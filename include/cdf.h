@@ -67,7 +67,7 @@ uint64_t cdf_lookup(const uint8_t *first, size_t first_length, const uint8_t *se
 #define CDF_PLACE_INNERMOST 2   /* state, start and end of the innermost open unit */
 #define CDF_PLACE_OUTER 5       /* the same of the others, from the root inwards: three times three numbers */
 #define CDF_PLACE_LAST 14       /* of the unit that was handed out last: id, action, start, own end, end */
-#define CDF_PLACE_FLAG 19       /* not 0: the last unit may still be skipped or taken */
+#define CDF_PLACE_FLAG 19       /* not 0: the last unit may still be skipped or taken; it is written as 1 or 0 */
 
 /* What a call answers beside its number: 8 numbers, zeros where there is nothing to say. They are written at each call. */
 #define CDF_ANSWER_NUMBERS 8
@@ -84,7 +84,9 @@ uint64_t cdf_lookup(const uint8_t *first, size_t first_length, const uint8_t *se
 uint64_t cdf_first(const uint8_t *stream, size_t length, uint64_t place[CDF_PLACE_NUMBERS], uint64_t answer[CDF_ANSWER_NUMBERS]);
 
 /* The other calls. With any number but 0 they leave the place as it was. CDF_ERR_NOTHING comes before CDF_ERR_UNFIT: a call that has
- * nothing to do on a place does not ask whether it belongs to the stream. On an empty place no call but cdf_abnormal_end has.
+ * nothing to do on a place does not ask whether it belongs to the stream. An empty place gets CDF_ERR_NOTHING from all of them but
+ * cdf_abnormal_end.
+ *
  * NEXT: hands out the next unit in the order of their starts. 0, 1, 2 and 3 to 11. */
 uint64_t cdf_next(const uint8_t *stream, size_t length, uint64_t place[CDF_PLACE_NUMBERS], uint64_t answer[CDF_ANSWER_NUMBERS]);
 
@@ -96,7 +98,7 @@ uint64_t cdf_skip(const uint8_t *stream, size_t length, uint64_t place[CDF_PLACE
  * the check accepts, and it was read from cdf_first on, they are such a stream too. 0, 2 and 11. */
 uint64_t cdf_get_stream(const uint8_t *stream, size_t length, uint64_t place[CDF_PLACE_NUMBERS], uint64_t answer[CDF_ANSWER_NUMBERS]);
 
-/* PREVIOUS: hands out the last unit again. 0, 2 and 11. */
+/* PREVIOUS: hands out the last unit again. It writes no number of the place, also beside 0. 0, 2 and 11. */
 uint64_t cdf_previous(const uint8_t *stream, size_t length, uint64_t place[CDF_PLACE_NUMBERS], uint64_t answer[CDF_ANSWER_NUMBERS]);
 
 /* ABNORMAL_END: gives the reading up. 0; zeros are written to the place and to the answer. */

@@ -136,30 +136,40 @@ fn reached(tally: &Tally) -> [u64; 4] {
     ]
 }
 
+/// When a run is done.
+enum Until {
+    Seconds(u64),
+    Rounds(u64),
+    Long,
+}
+
 fn main() {
     let words: Vec<String> = std::env::args().skip(1).collect();
-    let usage = "usage: diff SECONDS|long SEED";
-    let [how_long, seed] = &words[..] else { panic!("{usage}") };
-    let seconds: Option<u64> = match how_long.as_str() {
-        "long" => None,
-        seconds => Some(seconds.parse().expect(usage)),
+    let words: Vec<&str> = words.iter().map(String::as_str).collect();
+    let usage = "usage: diff SECONDS SEED | rounds ROUNDS SEED | long SEED";
+    let parsed = |word: &str| word.parse::<u64>().expect(usage);
+    let (until, seed) = match words[..] {
+        ["long", seed] => (Until::Long, seed),
+        ["rounds", rounds, seed] => (Until::Rounds(parsed(rounds)), seed),
+        [seconds, seed] => (Until::Seconds(parsed(seconds)), seed),
+        _ => panic!("{usage}"),
     };
-    let mut tally = Tally::new(seed.parse().expect(usage));
+    let mut tally = Tally::new(parsed(seed));
     let begun = Instant::now();
     let mut told = begun;
     fixed(&mut tally);
     loop {
         round(&mut tally);
-        if !tally.round.is_multiple_of(64) {
-            continue;
-        }
-        let figures = reached(&tally);
-        let done = match seconds {
-            Some(seconds) => begun.elapsed() >= Duration::from_secs(seconds),
-            None => figures.iter().zip(&LONG).all(|(have, least)| have >= least),
+        let at_times = tally.round.is_multiple_of(64);
+        let done = match until {
+            Until::Rounds(rounds) => tally.round >= rounds,
+            _ if !at_times => false,
+            Until::Seconds(seconds) => begun.elapsed() >= Duration::from_secs(seconds),
+            Until::Long => reached(&tally).iter().zip(&LONG).all(|(have, least)| have >= least),
         };
-        if seconds.is_none() && (done || told.elapsed() >= Duration::from_secs(2)) {
-            let [calls, places, builder_places, builder_calls] = figures;
+        let tells = matches!(until, Until::Long) && at_times;
+        if tells && (done || told.elapsed() >= Duration::from_secs(2)) {
+            let [calls, places, builder_places, builder_calls] = reached(&tally);
             eprint!(
                 "\r{} s: {calls} reader calls, {places} + {builder_places} places, {builder_calls} builder calls",
                 begun.elapsed().as_secs()
@@ -170,7 +180,7 @@ fn main() {
             break;
         }
     }
-    if seconds.is_none() {
+    if matches!(until, Until::Long) {
         eprintln!();
     }
     let good = tally.report();

@@ -56,7 +56,8 @@ pub fn compare_call(tally: &mut Tally, call: Call, stream: &[u8], place: &mut Re
     let (owed_number, owed_answer, owed_place) = numbers::reader_call(call, stream, &before);
     let place_is_owed = match (call, owed_number) {
         (Call::AbnormalEnd, _) => *place == [0; 20],
-        (_, 0) => reader_place(place) == owed_place,
+        (Call::Previous, _) => *place == before,
+        (_, 0) => reader_place(place) == owed_place && place[19] == u64::from(owed_place.fresh),
         (Call::First, _) => *place == [0; 20],
         _ => *place == before,
     };

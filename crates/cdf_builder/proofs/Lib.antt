@@ -1,6 +1,2 @@
-pub mod Entered
-pub mod Lengths
-pub mod Decided
-pub mod Few
-pub mod Calling
+pub mod Passed
 pub mod Proved

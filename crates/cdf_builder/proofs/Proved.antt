@@ -4,9 +4,9 @@ use mathlib.Core.Path.{_≡_, refl}
 use mathlib.Core.List.{List, [], _∷_}
 use native.Mathlib.Omega.{arith}
 use lib.ListN.{length}
-use Rattle.cdf_reader_spec.specs.Slots.{around, openUnits}
+use Rattle.cdf_reader_spec.specs.Slots.{aroundOf, heldOf}
 use Rattle.cdf_builder_spec.specs.declared.Begun.{Begun}
-use Rattle.cdf_builder_join.specs.Parts.{noBegun}
+use Rattle.cdf_builder_spec.specs.Slots.{noBegun}
 use Rattle.cdf_builder.specs.View.{view}
 use Rattle.cdf_builder.specs.Words.{Word, BegunWords, AllWords, StructWords}
 use Rattle.cdf_builder.specs.Claims.{Claims}
@@ -29,7 +29,7 @@ module _ (written : ℕ) (w : Word written) where
   held count few top o1 o2 o3 a b c d = record { written = w; count = omega arith; top = a; o1 = b; o2 = c; o3 = d }
 
   by-units : (os : List Begun) → length os ≤ 4 → AllWords os → Viewed os
-  unfolding struct openUnits around
+  unfolding struct heldOf aroundOf
   by-units [] few a =
       (struct 0 noBegun noBegun noBegun noBegun, held 0 (omega arith) noBegun noBegun noBegun noBegun zeros zeros zeros zeros, refl)
   by-units (t ∷ []) few a =

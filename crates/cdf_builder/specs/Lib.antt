@@ -1,4 +1,4 @@
 pub mod View
-pub mod Grown
+pub mod Held
 pub mod Words
 pub mod Claims

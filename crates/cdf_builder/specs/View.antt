@@ -3,8 +3,7 @@ use Prim.Native.Nat.{ℕ}
 use mathlib.Core.List.{List}
 use Rattle.cdf_builder_spec.specs.Place.{BuilderPlace}
 use Rattle.cdf_builder_spec.specs.Calls.{Reply, Decision, Finish}
-use Rattle.cdf_builder_spec.specs.Slots.{placeOf}
-use Rattle.cdf_builder_join.specs.Parts.{noBegun}
+use Rattle.cdf_builder_spec.specs.Slots.{noBegun, placeOf}
 use Rattle.cdf_builder.specs.declared.Builder.{Builder}
 use Rattle.cdf_builder.specs.declared.Built.{Built}
 use Rattle.cdf_builder.specs.declared.Finished.{Finished}

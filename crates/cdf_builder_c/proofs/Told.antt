@@ -16,14 +16,14 @@ use Rattle.cdf_builder.specs.declared.Built.{Built}
 use Rattle.cdf_builder_c.specs.Numbers.{builderFrom, numbersOf, replyFrom, callFrom}
 
 -- Numbers that are the answer's place tell the reply that is due.
-told : {due : Reply} (numbers buffer : List ℕ) (a : Built) → builderFrom numbers ≡ a .place → replyOf a buffer ≡ due →
+reply-of : {due : Reply} (numbers buffer : List ℕ) (a : Built) → builderFrom numbers ≡ a .place → replyOf a buffer ≡ due →
     replyFrom (a .number) numbers buffer ≡ due
-told numbers buffer a is due = ap (λ (p : Builder). replyOf (record { number = a .number; place = p }) buffer) is ∙ due
+reply-of numbers buffer a is due = ap (λ (p : Builder). replyOf (record { number = a .number; place = p }) buffer) is ∙ due
 
 -- So do those that are written of it.
 pub written : {due : Reply} (numbers buffer : List ℕ) (a : Built) → numbers ≡ numbersOf (a .place) → replyOf a buffer ≡ due →
     replyFrom (a .number) numbers buffer ≡ due
-written numbers buffer a wrote due = told numbers buffer a (ap builderFrom wrote) due
+written numbers buffer a wrote due = reply-of numbers buffer a (ap builderFrom wrote) due
 
 -- What a call on a place leaves of its numbers.
 abbrev left : Built → List ℕ → List ℕ
@@ -44,6 +44,6 @@ pub called : (s before : List ℕ) (r : Request) (p : Builder) → p ≡ builder
     (buffer : List ℕ) → replyOf a buffer ≡ at s r p → (number : ℕ) → number ≡ a .number → (after : List ℕ) → after ≡ left a before →
     (replyFrom number after buffer ≡ callFrom s before r) × ((number ≡ 0 → ⊥) → after ≡ before)
 called s before r p from a kept buffer due number same after is = (
-  rw (same, is) (told (left a before) buffer a (stored before p from a kept) (due ∙ ap (at s r) from)),
+  rw (same, is) (reply-of (left a before) buffer a (stored before p from a kept) (due ∙ ap (at s r) from)),
   λ some. is ∙ rw (ne-eqb (a .number) 0 (λ e. some (same ∙ e))),
 )

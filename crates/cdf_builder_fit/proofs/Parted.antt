@@ -1,24 +1,25 @@
 -- Whether a builder's place fits, by its parts and in the order of the code's tests.
 use Prim.Native.Nat.{ℕ, zero, suc, _+_, _≤_, _<_}
-use mathlib.Core.Path.{_≡_, refl, sym, ap, _∙_}
+use mathlib.Core.Path.{_≡_, refl, sym, _∙_}
 use mathlib.Core.Bool.{Bool, true, false, _&&_, _||_, and-true, false≢true}
 use mathlib.Core.List.{List, [], _∷_, map}
 use native.Mathlib.Omega.{arith}
 use borrow.Author.Tests.{le-leb, eq-eqb}
 use lib.Dec.{leb, ltb}
-use lib.ListN.{length, length-map}
+use lib.ListN.{length}
 use Rattle.cdf_unit_table.proofs.Bools.{both}
 use Rattle.cdf_unit_prefix.specs.Layout.{Layout, prefixOf}
 use Rattle.cdf_unit_list.specs.declared.Open.{Open}
 use Rattle.cdf_reader_spec.specs.Place.{nested, every, positioned}
-use Rattle.cdf_reader_spec.specs.Slots.{around, openUnits}
+use Rattle.cdf_reader_spec.specs.Slots.{around, openUnits, aroundOf, heldOf}
 use Rattle.cdf_reader_spec.specs.Tests.{chain}
+use Rattle.cdf_reader_spec.proofs.Counted.{length-held, length-open}
 use Rattle.cdf_reader_spec.proofs.Fitting.{Kinds, Ends}
 use Rattle.cdf_reader_spec.proofs.Opened.{at-most-four as few-open, chain-clauses, clauses-chain}
 use Rattle.cdf_reader_fit.proofs.Parted.{no}
 use Rattle.cdf_builder_spec.specs.declared.Begun.{Begun}
 use Rattle.cdf_builder_spec.specs.Place.{BuilderPlace, stands, standing, buildable, fits}
-use Rattle.cdf_builder_spec.specs.Slots.{begun, placeOf}
+use Rattle.cdf_builder_spec.specs.Slots.{noBegun, placeOf}
 use Rattle.cdf_builder_spec.proofs.Fitting.{Fitting, at-most-four, fitting, fits-true}
 
 -- Units that end where the writing does lie in one another as far as their ends go.
@@ -52,7 +53,7 @@ module _ (written : ℕ) (top o1 o2 o3 : Begun) where
   same (suc (suc (suc (suc (suc k))))) h = absurd (omega arith)
 
   asked : (k : ℕ) → 1 ≤ k → k ≤ 4 → reached k ≡ every (λ o. buildable (o .state)) (standing (placed k))
-  unfolding standing openUnits around every
+  unfolding standing heldOf aroundOf every
   asked zero g h = absurd (omega arith)
   asked (suc zero) g h = refl
   asked (suc (suc zero)) g h = rw and-true
@@ -61,28 +62,22 @@ module _ (written : ℕ) (top o1 o2 o3 : Begun) where
   asked (suc (suc (suc (suc (suc k))))) g h = absurd (omega arith)
 
   size : (k : ℕ) → length (slots k) ≡ k
-  unfolding openUnits around
-  size zero = refl
-  size (suc k) = ap suc (go k)
-    where
-      go : (k : ℕ) → length (around (stands written o1) (stands written o2) (stands written o3) k) ≡ k
-      go zero = refl
-      go (suc k) = ap suc (go k)
+  size k = length-open k (stands written top) (stands written o1) (stands written o2) (stands written o3)
 
   units-size : (k : ℕ) → length (placed k .units) ≡ k
-  units-size k = length-map (slots k) begun ∙ size k
+  units-size k = length-held noBegun k top o1 o2 o3
 
   few-kinds : (k : ℕ) → Kinds (standing (placed k)) → k ≤ 4
   few-kinds k kinds = omega (arith, at-most-four (placed k) kinds, units-size k)
 
   -- What the place asks of the innermost unit is asked of `top`.
   top-past : (l : Layout) (k : ℕ) → positioned l written (standing (placed k)) ≡ true → leb (top .start + prefixOf l) written ≡ true
-  unfolding positioned standing openUnits
+  unfolding positioned standing heldOf
   top-past l zero e = absurd (false≢true e)
   top-past l (suc k) e = both (leb (top .start + prefixOf l) written) _ e .0
 
   past-top : (l : Layout) (k : ℕ) → 1 ≤ k → leb (top .start + prefixOf l) written ≡ true → positioned l written (standing (placed k)) ≡ true
-  unfolding positioned standing openUnits
+  unfolding positioned standing heldOf
   past-top l zero some e = absurd (omega arith)
   past-top l (suc k) some e = rw (e, le-leb written written (omega arith))
 

@@ -1,26 +1,18 @@
-// Whether a builder's place could belong to a buffer. The place is taken by its parts, which the builder's struct holds.
+// Whether a builder's place could belong to a buffer.
 ghost use mathlib.Core.Path.{_≡_};
 ghost use mathlib.Core.Bool.{_&&_, _||_};
 ghost use lib.Dec.{ltb};
 ghost use Rattle.cdf_unit_prefix.specs.Layout.{layoutOf};
 ghost use Rattle.cdf_builder_spec.specs.Place.{stands, buildable, fits};
-ghost use Rattle.cdf_builder_spec.specs.Slots.{placeOf};
+ghost use Rattle.cdf_builder_spec.specs.Slots.{placed};
 use cdf_builder_spec::Begun;
+use cdf_builder_spec::Parts;
 use cdf_reader_fit::is_chain;
 use cdf_reader_open::is_past;
 use cdf_unit_list::Open;
 use cdf_unit_prefix::Edition;
 use cdf_unit_prefix::limit;
-
-// The states but for 'skipped', a bit for each.
-const BUILDABLE: usize = 1002167150;
-
-// Whether a unit that is built may be in this state.
-fn is_buildable(state: usize) -> bool
-    ensures { λ r. ⌜ r ≡ buildable state ⌝ }
-{
-    (state < 32) & ((BUILDABLE >> (state % 32)) & 1 == 1)
-}
+use cdf_unit_states::is_unskipped;
 
 // Whether the innermost unit may be in its state, and each other that the count reaches.
 fn are_buildable(count: usize, top: Begun, o1: Begun, o2: Begun, o3: Begun) -> bool
@@ -29,9 +21,9 @@ fn are_buildable(count: usize, top: Begun, o1: Begun, o2: Begun, o3: Begun) -> b
         && ((ltb count 4 || buildable (o3 .state))
         && ((ltb count 3 || buildable (o2 .state)) && (ltb count 2 || buildable (o1 .state))))) ⌝ }
 {
-    is_buildable(top.state)
-        & (((count < 4) | is_buildable(o3.state))
-            & (((count < 3) | is_buildable(o2.state)) & ((count < 2) | is_buildable(o1.state))))
+    is_unskipped(top.state)
+        & (((count < 4) | is_unskipped(o3.state))
+            & (((count < 3) | is_unskipped(o2.state)) & ((count < 2) | is_unskipped(o1.state))))
 }
 
 // The unit as it stands: it ends where the writing does.
@@ -45,20 +37,16 @@ fn standing(written: usize, o: Begun) -> Open
     }
 }
 
-// Whether a place with these parts could belong to a buffer of n bytes: so many are written, `count` units are open, `top` the
-// innermost, `o1` to `o3` the others from the outermost inwards.
-pub fn fits(
-    edition: Edition,
-    n: usize,
-    written: usize,
-    count: usize,
-    top: Begun,
-    o1: Begun,
-    o2: Begun,
-    o3: Begun,
-) -> bool
-    ensures { λ r. ⌜ r ≡ fits (layoutOf edition) n (placeOf written count top o1 o2 o3) ⌝ }
+// Whether the place could belong to a buffer of n bytes.
+pub fn is_fit(edition: Edition, n: usize, p: Parts) -> bool
+    ensures { λ r. ⌜ r ≡ fits (layoutOf edition) n (placed p) ⌝ }
 {
+    let written = p.written;
+    let count = p.count;
+    let top = p.top;
+    let o1 = p.o1;
+    let o2 = p.o2;
+    let o3 = p.o3;
     if n < written {
         return false;
     }

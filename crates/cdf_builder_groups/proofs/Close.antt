@@ -8,7 +8,7 @@ use native.Mathlib.Omega.{arith}
 use borrow.Author.Tests.{eqb-true}
 use lib.Dec.{T, eqb}
 use lib.ListN.{length}
-use Rattle.cdf_unit_table.specs.Ids.{known, call, erGroup, fileGroup}
+use Rattle.cdf_unit_table.specs.Ids.{call, erGroup, fileGroup}
 use Rattle.cdf_unit_table.specs.States.{rows, admit, admitsKind, unitOf, streamGroup}
 use Rattle.cdf_unit_table.proofs.Bools.{both}
 use Rattle.cdf_unit_table.specs.Heights.{height}
@@ -17,15 +17,16 @@ use Rattle.cdf_unit_table.proofs.Rows.{from-rows}
 use Rattle.cdf_unit_table.proofs.Tests.{is-true}
 use Rattle.cdf_unit_prefix.specs.Layout.{Layout, idAt}
 use Rattle.cdf_grammar.specs.Published.{Among}
-use Rattle.cdf_grammar.specs.Encoding.{Item}
 use Rattle.cdf_reader_spec.specs.Place.{nested}
 use Rattle.cdf_reader_spec.proofs.Fitting.{Kinds}
 use Rattle.cdf_builder_spec.specs.Place.{BuilderPlace, stands, standing, fits}
-use Rattle.cdf_builder_spec.specs.Requests.{unit, group, joining, joined, refused}
-use Rattle.cdf_builder_spec.specs.Calls.{Reply, callNumber}
+use Rattle.cdf_builder_spec.specs.Requests.{Request, unit, group, idOf, joining, joined, refused}
+use Rattle.cdf_builder_spec.specs.Calls.{Reply}
 use Rattle.cdf_builder_spec.specs.declared.Begun.{Begun}
 use Rattle.cdf_builder_spec.proofs.Fitting.{fitting}
+use Rattle.cdf_builder_spec.proofs.Replying.{call-number, call-fitting}
 use Rattle.cdf_builder_runs.specs.Runs.{answer}
+use Rattle.cdf_builder_groups.specs.Claims.{NoCall}
 use Rattle.cdf_builder_runs.proofs.Answers.{answer-called, answer-fits, answer-place}
 use Rattle.cdf_builder_runs.proofs.Passed.{group-rules, group-kind}
 use Rattle.cdf_builder_runs.proofs.Taken.{units-group}
@@ -61,19 +62,24 @@ stream-outer w o (p ∷ os) is kinds =
     let high : 4 < height (unitOf (p .state)) = rw (is, top) at lower in
     absurd (omega (arith, height-most (unitOf (p .state)), high))
 
--- A known unit that no open unit admits gets 7.
-seven : (l : Layout) (os : List Begun) (u : Item) (next : ℕ) → known (u .id) ≡ true → joining (u .id) os ≡ [] → refused l os (unit u) next ≡ 7
-unfolding refused joined
-seven l os u next k none = rw (k, none)
+-- What is no call and is not refused for itself gets 7 where no open unit admits it.
+no-call : (l : Layout) (r : Request) → NoCall l r → idOf l r ≡ call → ⊥
+unfolding idOf
+no-call l (unit u) w z = w .1 z
+no-call l (group g) w z = go (group-kind (idAt l g) (w .1)) z
+  where
+    go : Among (idAt l g) (erGroup ∷ fileGroup ∷ []) → idAt l g ≡ call → ⊥
+    go (inl k) z = omega (arith, k, z)
+    go (inr (inl k)) z = omega (arith, k, z)
+
+seven : (l : Layout) (os : List Begun) (r : Request) (next : ℕ) → NoCall l r → joining (idOf l r) os ≡ [] → refused l os r next ≡ 7
+unfolding refused joined idOf
+seven l os (unit u) next w none = rw (w .0, none)
+seven l os (group g) next w none = rw (w .0, w .1, none)
 
 none-joined : (o : Begun) (id : ℕ) → admit (o .state) id ≡ 0 → joining id (o ∷ []) ≡ []
 unfolding joining
 none-joined o id none = rw none
-
-seven-call : (l : Layout) (n : ℕ) (q : BuilderPlace) (u : Item) → fits l n q ≡ true → known (u .id) ≡ true → joining (u .id) (q .units) ≡ [] →
-    callNumber l n q (unit u) ≡ 7
-unfolding callNumber
-seven-call l n q u fit k none = rw fit (seven l (q .units) u _ k none)
 
 module _ (l : Layout) (a : Reply) (g : List ℕ) (zero : answer l a (group g) .number ≡ 0) where
   abbrev next : Reply
@@ -95,9 +101,10 @@ module _ (l : Layout) (a : Reply) (g : List ℕ) (zero : answer l a (group g) .n
       let kinds = rw units at (fitting l (length (next .buffer)) (next .place) next-fits .kinds) in
       (had, state, units ∙ ap (λ os. had ∷ os) (stream-outer (next .place .written) had (j .outer) state kinds))
 
-  pub closed-after : (u : Item) → known (u .id) ≡ true → (u .id ≡ call → ⊥) →
-      callNumber l (length (next .buffer)) (next .place) (unit u) ≡ 7
-  closed-after u k other =
+  pub closed-after : (r : Request) → NoCall l r → answer l next r .number ≡ 7
+  closed-after r w =
       let (o, state, units) = alone in
-      seven-call l (length (next .buffer)) (next .place) u next-fits k
-      (rw units (none-joined o (u .id) (rw state (only-call (u .id) other))))
+      let none : joining (idOf l r) (next .place .units) ≡ [] =
+      rw units (none-joined o (idOf l r) (rw state (only-call (idOf l r) (no-call l r w)))) in
+      call-number l (next .buffer) (next .place) r ∙ call-fitting l (length (next .buffer)) (next .place) r next-fits
+      ∙ seven l (next .place .units) r _ w none

@@ -1,5 +1,7 @@
 pub mod Told
-pub mod Spine
+pub mod Levels
+pub mod Lengths
+pub mod Over
 pub mod Singly
 pub mod Close
 pub mod Stand

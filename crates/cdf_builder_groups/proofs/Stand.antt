@@ -5,6 +5,7 @@ use mathlib.Core.List.{List, [], _∷_, _++_, map, append-assoc, append-nil, map
 use mathlib.Core.Logic.{_⊎_, inl, inr}
 use native.Mathlib.Omega.{arith}
 use lib.ListN.{length, length-append}
+use Rattle.cdf_unit_table.proofs.Bools.{clash}
 use Rattle.cdf_unit_prefix.specs.Layout.{Layout, layoutOf, prefixOf}
 use Rattle.cdf_unit_prefix.specs.declared.Edition.{Edition}
 use Rattle.cdf_unit_list.specs.declared.Unit.{Unit}
@@ -13,12 +14,13 @@ use Rattle.cdf_grammar.specs.Published.{productionOf}
 use Rattle.cdf_grammar.specs.Encoding.{Stream, encode, list, ownLength, Item, says}
 use Rattle.cdf_grammar.proofs.Built.{encode-none}
 use Rattle.cdf_builder_spec.specs.Requests.{Request, unit, group}
+use Rattle.cdf_builder_spec.proofs.Replying.{unit-size}
 use Rattle.cdf_builder_runs.specs.Runs.{sizes, told}
 use Rattle.cdf_builder_runs.specs.Telling.{Tells}
 use Rattle.cdf_builder_groups.specs.Claims.{movedBy}
 use Rattle.cdf_builder_runs.proofs.Rooms.{sizes-end, sizes-on}
 use Rattle.cdf_builder_runs.proofs.Said.{told-append, told-says, told-none, told-unit}
-use Rattle.cdf_builder_groups.proofs.Told.{sizes-append, unit-size, tree-size, tells-sizes}
+use Rattle.cdf_builder_groups.proofs.Told.{sizes-append, tree-size, tells-sizes}
 
 -- An element of two lists, one after the other, is in the first or in the second.
 splits : {A : Type 0} (a b xs : List A) (x : A) (ys : List A) → a ++ b ≡ xs ++ (x ∷ ys) →
@@ -133,7 +135,7 @@ module _ (e : Edition) (g : List ℕ) where
     stands-in m s =
         let u : Item = record { id = id; action = action; text = text } in
         let there : at + prefixOf l + length text + sizes l m ≡ at + sizes l (unit u ∷ m) =
-        rw (sizes-on l (unit u) m, unit-size l id action text) (omega arith) in
+        rw (sizes-on l (unit u) m, unit-size l u) (omega arith) in
         record {
           root = s .root;
           stream = s .stream;
@@ -179,7 +181,7 @@ module _ (e : Edition) (g : List ℕ) where
 
     over-tree : (rs xs ys : List Request) → Tells l (tree id action text inner rest) rs → rs ≡ xs ++ (group g ∷ ys) →
         Stands l at (tree id action text inner rest) xs g
-    over-tree rs [] ys (inl (within, later, is, inside, behind)) e = let z : _≡_ {A = ℕ} 0 1 = cc in absurd (omega arith)
+    over-tree rs [] ys (inl (within, later, is, inside, behind)) e = clash cc
     over-tree rs (x ∷ xs) ys (inl (within, later, is, inside, behind)) e =
         let same : x ≡ unit item = cc in
         rw same (by-unit within later xs ys inside behind cc)
@@ -193,8 +195,8 @@ module _ (e : Edition) (g : List ℕ) where
         (over-rest (end at id action text inner rest) later xs ys behind cc))
 
   over-none : Standing none
-  over-none at rs [] ys t e = let z : _≡_ {A = ℕ} 0 1 = cc in absurd (omega arith)
-  over-none at rs (x ∷ xs) ys t e = let z : _≡_ {A = ℕ} 0 1 = cc in absurd (omega arith)
+  over-none at rs [] ys t e = clash cc
+  over-none at rs (x ∷ xs) ys t e = clash cc
 
   pub stands : (f : Forest) → Standing f
   stands none = over-none

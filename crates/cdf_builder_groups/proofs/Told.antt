@@ -1,37 +1,25 @@
--- Requests one list after the other: what they say, how many bytes they take, and what their runs come to.
+-- How many bytes requests take.
 use Prim.Native.Nat.{ℕ, _+_}
 use mathlib.Core.Path.{_≡_}
-use mathlib.Core.List.{List, [], _∷_, _++_, append-nil}
+use mathlib.Core.List.{List, [], _∷_, _++_}
 use mathlib.Core.Logic.{inl, inr}
 use native.Mathlib.Omega.{arith}
 use lib.ListN.{length, length-append}
 use Rattle.cdf_unit_prefix.specs.Layout.{Layout, prefixOf}
 use Rattle.cdf_grammar.specs.Trees.{Forest, none, tree}
 use Rattle.cdf_grammar.specs.Encoding.{encode, Item}
-use Rattle.cdf_grammar.specs.Claims.{itemsOf}
 use Rattle.cdf_grammar.proofs.Built.{encode-none, encode-tree, length-unit}
-use Rattle.cdf_builder_spec.specs.Requests.{Request, unit, group, bytesFor}
-use Rattle.cdf_builder_spec.specs.Calls.{Reply}
-use Rattle.cdf_builder_runs.specs.Runs.{answer, run, AllDone, sizes, toldBy, told}
+use Rattle.cdf_builder_spec.specs.Requests.{Request, unit, group}
+use Rattle.cdf_builder_spec.proofs.Replying.{unit-size}
+use Rattle.cdf_builder_runs.specs.Runs.{sizes}
 use Rattle.cdf_builder_runs.specs.Telling.{Tells}
-use Rattle.cdf_builder_runs.proofs.Answers.{first-done}
 use Rattle.cdf_builder_runs.proofs.Rooms.{sizes-on, sizes-end}
-use Rattle.cdf_builder_runs.proofs.Taken.{bytes-group, unit-bytes}
+use Rattle.cdf_builder_runs.proofs.Taken.{bytes-group}
 
 module _ (l : Layout) where
-  pub told-whole : (g : List ℕ) → told l (group g ∷ []) ≡ itemsOf l g
-  unfolding told toldBy
-  told-whole g = append-nil (itemsOf l g)
-
   pub sizes-append : (xs ys : List Request) → sizes l (xs ++ ys) ≡ sizes l xs + sizes l ys
   sizes-append [] ys = rw (sizes-end l) (omega arith)
   sizes-append (x ∷ xs) ys = rw (sizes-on l x (xs ++ ys), sizes-on l x xs, sizes-append xs ys) (omega arith)
-
-  -- A unit's bytes.
-  pub unit-size : (id action : ℕ) (text : List ℕ) →
-      length (bytesFor l (unit (record { id = id; action = action; text = text }))) ≡ prefixOf l + length text
-  unit-size id action text =
-      rw (unit-bytes l (record { id = id; action = action; text = text }), encode-tree l, encode-none, append-nil, length-unit l) (omega arith)
 
   pub tree-size : (id action : ℕ) (text : List ℕ) (inner rest : Forest) →
       length (encode l (tree id action text inner rest)) ≡ prefixOf l + (length text + length (encode l inner)) + length (encode l rest)
@@ -48,7 +36,7 @@ module _ (l : Layout) where
         sizes-append within after,
         tells-sizes inner within told,
         tells-sizes rest after later,
-        unit-size id action text,
+        unit-size l u,
         tree-size id action text inner rest,
       ) (omega arith)
   tells-sizes (tree id action text inner rest) rs (inr (g, after, is, kind, s, later)) =
@@ -56,12 +44,3 @@ module _ (l : Layout) where
       let long : length g ≡ prefixOf l + (length text + length (encode l inner)) =
       rw (← s .bytes, tree-size id action text inner none) (omega arith) in
       rw (is, sizes-on l (group g) after, tells-sizes rest after later, bytes-group l g, tree-size id action text inner rest, long)
-
-  pub done-front : (a : Reply) (xs ys : List Request) → AllDone l a (xs ++ ys) → AllDone l a xs
-  done-front a [] ys d = first-done l a ys d
-  done-front a (x ∷ xs) ys d = (d .0, done-front (answer l a x) xs ys (d .1))
-
-  pub done-after : (a : Reply) (xs ys : List Request) → AllDone l a (xs ++ ys) → AllDone l (run l a xs) ys
-  unfolding run
-  done-after a [] ys d = d
-  done-after a (x ∷ xs) ys d = done-after (answer l a x) xs ys (d .1)

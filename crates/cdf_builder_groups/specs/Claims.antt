@@ -3,20 +3,22 @@
 use Prim.Native.Nat.{ℕ, _+_}
 use mathlib.Core.Path.{_≡_}
 use mathlib.Core.Bool.{true}
-use mathlib.Core.List.{List, [], _∷_, _++_, map}
-use lib.ListN.{length, take}
+use mathlib.Core.List.{List, _∷_, _++_, map}
+use lib.ListN.{take}
 use Rattle.cdf_unit_table.specs.Ids.{known, call}
-use Rattle.cdf_unit_prefix.specs.Layout.{Layout, layoutOf}
+use Rattle.cdf_unit_prefix.specs.Layout.{Layout, layoutOf, idAt}
 use Rattle.cdf_unit_prefix.specs.declared.Edition.{Edition}
+use Rattle.cdf_unit_list.specs.Check.{checkOf}
 use Rattle.cdf_unit_list.specs.Units.{listing}
 use Rattle.cdf_unit_list.specs.declared.Unit.{Unit}
-use Rattle.cdf_grammar.specs.Encoding.{Bytes, Item, itemOf}
+use Rattle.cdf_grammar.specs.Encoding.{Bytes, itemOf}
 use Rattle.cdf_grammar.specs.Claims.{itemsOf}
-use Rattle.cdf_builder_spec.specs.Place.{BuilderPlace}
+use Rattle.cdf_reader_spec.specs.Calls.{isGroup}
 use Rattle.cdf_builder_spec.specs.Requests.{Request, unit, group, completed}
-use Rattle.cdf_builder_spec.specs.Calls.{Reply, startOf, callOf, callNumber, finishOf}
+use Rattle.cdf_builder_spec.specs.Calls.{Reply}
 use Rattle.cdf_builder_spec.specs.declared.Begun.{Begun}
-use Rattle.cdf_builder_runs.specs.Runs.{rootItem, answer, run, AllDone, told, AllLent}
+use Rattle.cdf_builder_runs.specs.Runs.{answer, run, AllDone, told, AllLent}
+use Rattle.cdf_builder_runs.specs.Building.{Building, andThen, layout, asked, last, finish, AllZero}
 
 -- After the answer `a` the group may as well be added by a call for each of its units.
 pub record Singly (l : Layout) (a : Reply) (g : List ℕ) : Type 0 where
@@ -30,29 +32,27 @@ pub record Singly (l : Layout) (a : Reply) (g : List ℕ) : Type 0 where
   pub around :
       (inner : List Begun) × (completed inner ≡ true) × (run l a (map unit (itemsOf l g)) .place .units ≡ inner ++ answer l a (group g) .place .units)
 
+-- A known unit other than a call, or the bytes of a group that the check accepts.
+abbrev pub NoCall : Layout → Request → Type 0
+NoCall l (unit u) = (known (u .id) ≡ true) × (u .id ≡ call → ⊥)
+NoCall l (group g) = (checkOf l g .number ≡ 0) × (isGroup (idAt l g) ≡ true)
+
 -- A unit that stands so many bytes further.
 unfoldable pub movedBy : ℕ → Unit → Unit
 movedBy base u = record { id = u .id; action = u .action; start = base + u .start; own = base + u .own; end = base + u .end }
 
 pub record Claims : Type 0 where
-  -- Wherever a whole group is added, its units may be.
-  pub singly : (e : Edition) (s : List ℕ) (id : ℕ) (rs : List Request) (g : List ℕ) → AllLent rs → Bytes g →
-      AllDone (layoutOf e) (startOf (layoutOf e) s id) (rs ++ (group g ∷ [])) →
-      Singly (layoutOf e) (run (layoutOf e) (startOf (layoutOf e) s id) rs) g
-  -- But a whole group is closed: of the known units only a call can come next, and any other gets 7.
-  pub closes : (l : Layout) (s : List ℕ) (p : BuilderPlace) (g : List ℕ) → callOf l s p (group g) .number ≡ 0 →
-      (u : Item) → known (u .id) ≡ true → (u .id ≡ call → ⊥) →
-      callNumber l (length (callOf l s p (group g) .buffer)) (callOf l s p (group g) .place) (unit u) ≡ 7
+  -- Wherever a whole group is added, its units may be: at any place, on any buffer.
+  pub singly : (e : Edition) (a : Reply) (g : List ℕ) → Bytes g → a .number ≡ 0 → answer (layoutOf e) a (group g) .number ≡ 0 →
+      Singly (layoutOf e) a g
+  -- But a whole group is closed: only a call can come next. Any other unit gets 7, and so does a second group.
+  pub closes : (l : Layout) (a : Reply) (g : List ℕ) → answer l a (group g) .number ≡ 0 → (r : Request) → NoCall l r →
+      answer l (answer l a (group g)) r .number ≡ 7
   -- In the finished stream the group's units stand as in the group, moved by what was written before it: between units that say
   -- what was asked for before it, and units that say what was asked for after it.
-  pub moved : (e : Edition) (s : List ℕ) (id : ℕ) (xs : List Request) (g : List ℕ) (ys : List Request) → AllLent (xs ++ (group g ∷ ys)) →
-      AllDone (layoutOf e) (startOf (layoutOf e) s id) (xs ++ (group g ∷ ys)) →
-      (n : ℕ) →
-      finishOf (layoutOf e) (length s) (run (layoutOf e) (startOf (layoutOf e) s id) (xs ++ (group g ∷ ys)) .place)
-      ≡ record { number = 0; length = n } →
-      (front : List ℕ) → front ≡ take n (run (layoutOf e) (startOf (layoutOf e) s id) (xs ++ (group g ∷ ys)) .buffer) →
+  pub moved : (b : Building) (g : List ℕ) (ys : List Request) (c : Building) → c ≡ andThen b (group g ∷ ys) → AllLent (c .calls) → AllZero c →
+      finish c .number ≡ 0 → (front : List ℕ) → front ≡ take (finish c .length) (last c .buffer) →
       (before : List Unit) × (after : List Unit)
-      × (listing (layoutOf e) front .units
-      ≡ before ++ (map (movedBy (run (layoutOf e) (startOf (layoutOf e) s id) xs .place .written)) (listing (layoutOf e) g .units) ++ after))
-      × (map (itemOf (layoutOf e) front) before ≡ told (layoutOf e) (unit (rootItem id) ∷ xs))
-      × (map (itemOf (layoutOf e) front) after ≡ told (layoutOf e) ys)
+      × (listing (layout b) front .units ≡ before ++ (map (movedBy (last b .place .written)) (listing (layout b) g .units) ++ after))
+      × (map (itemOf (layout b) front) before ≡ told (layout b) (asked b))
+      × (map (itemOf (layout b) front) after ≡ told (layout b) ys)

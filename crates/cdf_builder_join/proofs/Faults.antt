@@ -9,6 +9,7 @@ use lib.Dec.{eqb}
 use lib.ListN.{length, List·getD-eq-default}
 use Rattle.cdf_unit_table.specs.Ids.{actionAllowed}
 use Rattle.cdf_unit_table.specs.States.{opens}
+use Rattle.cdf_unit_table.proofs.Bools.{clash}
 use Rattle.cdf_unit_prefix.specs.Layout.{Layout, prefixOf, idAt}
 use Rattle.cdf_unit_data.specs.Data.{ownData}
 use Rattle.cdf_unit_data.specs.declared.Own.{Own}
@@ -19,7 +20,7 @@ use Rattle.cdf_unit_judge.specs.declared.Body.the-variants.{Action, Data, Whole
 use Rattle.cdf_unit_list.specs.Units.{End, unfinished, ended, fault, listing}
 use Rattle.cdf_unit_list.specs.Check.{checkOf}
 use Rattle.cdf_unit_list.proofs.Proved.{proved}
-use Rattle.cdf_check.specs.Answers.{checkedBy, checkedOf, paperOf}
+use Rattle.cdf_check.specs.Answers.{checkedBy, checkedOf, asAnswer}
 use Rattle.cdf_check.specs.declared.Checked.the-variants.{Accepted, Refused}
 use Rattle.cdf_reader_spec.specs.Calls.{isGroup}
 use Rattle.cdf_builder_spec.specs.Requests.{wholeData, rightData, acceptedGroup}
@@ -76,8 +77,8 @@ module _ (l : Layout) (g : List ℕ) where
   unfolding idAt
   group-short h = group-other (rw (List·getD-eq-default g 0 {n = prefixOf l - 1} (omega arith)))
 
-  pub group-accepted : (n : ℕ) → paperOf (Accepted n) ≡ checkOf l g → isGroup (idAt l g) ≡ true → groupId l g ≡ idAt l g
-  unfolding groupId acceptedGroup paperOf
+  pub group-accepted : (n : ℕ) → asAnswer (Accepted n) ≡ checkOf l g → isGroup (idAt l g) ≡ true → groupId l g ≡ idAt l g
+  unfolding groupId acceptedGroup asAnswer
   group-accepted n e f = rw (← e, f)
 
   -- A fault's number is not 0.
@@ -87,9 +88,9 @@ module _ (l : Layout) (g : List ℕ) where
     where
       by : (end : End) → listing l g .end ≡ end → Refused n at ≡ checkedBy (length (listing l g .units)) end → ⊥
       by unfinished f e = let m : n ≡ 99 = cc in omega arith
-      by ended f e = let m : _≡_ {A = ℕ} 0 1 = cc in omega arith
+      by ended f e = clash cc
       by (fault k p) f e = let m : n ≡ k = cc in let w = proved .numbered l g f in omega (arith, w .0)
 
-  pub group-refused : {n at : ℕ} → Refused n at ≡ checkedOf (listing l g) → paperOf (Refused n at) ≡ checkOf l g → groupId l g ≡ 0
-  unfolding groupId acceptedGroup paperOf
+  pub group-refused : {n at : ℕ} → Refused n at ≡ checkedOf (listing l g) → asAnswer (Refused n at) ≡ checkOf l g → groupId l g ≡ 0
+  unfolding groupId acceptedGroup asAnswer
   group-refused {n} is e = rw (← e, ne-eqb n 0 (refused-some is))

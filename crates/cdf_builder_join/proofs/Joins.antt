@@ -7,11 +7,12 @@ use native.Mathlib.Omega.{arith}
 use borrow.Author.Tests.{eq-eqb, ne-eqb}
 use lib.ListN.{length}
 use Rattle.cdf_unit_table.specs.States.{admit, complete}
-use Rattle.cdf_reader_spec.specs.Slots.{openUnits}
+use Rattle.cdf_reader_spec.specs.Slots.{heldOf}
 use Rattle.cdf_builder_spec.specs.Requests.{joining, ending, completed, joined, advanced}
+use Rattle.cdf_builder_spec.specs.Slots.{noBegun, units}
 use Rattle.cdf_builder_spec.specs.declared.Begun.{Begun}
 use Rattle.cdf_builder_spec.proofs.Joining.{joins-over}
-use Rattle.cdf_builder_join.specs.Parts.{units, outside}
+use Rattle.cdf_builder_join.specs.Parts.{outside}
 use Rattle.cdf_builder_join.proofs.Parts.{units-first}
 
 passed-by : (id : ℕ) (o : Begun) (os : List Begun) → admit (o .state) id ≡ 0 →
@@ -53,8 +54,8 @@ module _ (id : ℕ) (before : List Begun) (o1 o2 o3 : Begun) where
       )
 
   pub none : {left : ℕ} {inner : Begun} {full : Bool} → Going left inner full → left ≤ 0 →
-      (joined before id 0 ≡ 7) × (units left inner o1 o2 o3 ≡ advanced id (joining id before))
-  unfolding joined joining advanced openUnits
+      (joined before id 0 ≡ 7) × (units left noBegun o1 o2 o3 ≡ advanced id (joining id before))
+  unfolding joined joining advanced heldOf
   none {left = zero} g h = (rw (g .same), rw (g .same))
   none {left = suc k} g h = absurd (omega arith)
 
@@ -74,6 +75,6 @@ module _ (o1 o2 o3 : Begun) {left : ℕ} (inner : Begun) (some : 0 < left) where
   completed-not e = rw (units-first o1 o2 o3 left inner (outside left o1 o2 o3) some refl, e)
 
 pub completed-none : (o1 o2 o3 : Begun) {left : ℕ} (inner : Begun) → left ≤ 0 → completed (units left inner o1 o2 o3) ≡ true
-unfolding completed openUnits
+unfolding completed heldOf
 completed-none o1 o2 o3 {left = zero} inner h = refl
 completed-none o1 o2 o3 {left = suc k} inner h = absurd (omega arith)

@@ -6,15 +6,8 @@ use lib.Dec.{eqb}
 use Rattle.cdf_unit_table.specs.Ids.{actionAllowed}
 use Rattle.cdf_unit_prefix.specs.Layout.{Layout, idAt}
 use Rattle.cdf_builder_spec.specs.Requests.{rightData, acceptedGroup}
-use Rattle.cdf_builder_spec.specs.Slots.{placeOf}
+use Rattle.cdf_builder_spec.specs.Slots.{noBegun}
 use Rattle.cdf_builder_spec.specs.declared.Begun.{Begun}
-
-abbrev pub noBegun : Begun
-noBegun = record { state = 0; start = 0 }
-
--- The open units of a struct with these parts, whatever is written.
-abbrev pub units : ℕ → Begun → Begun → Begun → Begun → List Begun
-units count top o1 o2 o3 = placeOf 0 count top o1 o2 o3 .units
 
 -- The unit around the innermost of so many.
 abbrev pub outside : ℕ → Begun → Begun → Begun → Begun

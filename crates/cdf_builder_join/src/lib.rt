@@ -4,7 +4,8 @@ ghost use mathlib.Core.Path.{_≡_};
 ghost use Rattle.cdf_unit_prefix.specs.Layout.{layoutOf};
 ghost use Rattle.cdf_builder_spec.specs.Requests.{joining, completed, joined, advanced};
 ghost use Rattle.cdf_builder_spec.specs.Calls.{room};
-ghost use Rattle.cdf_builder_join.specs.Parts.{units, outside, ownFault, groupId};
+ghost use Rattle.cdf_builder_spec.specs.Slots.{noBegun, units};
+ghost use Rattle.cdf_builder_join.specs.Parts.{outside, ownFault, groupId};
 use cdf_builder_spec::Begun;
 use cdf_check::Checked;
 use cdf_check::check_as;
@@ -43,10 +44,11 @@ fn around(count: usize, o1: Begun, o2: Begun, o3: Begun) -> Begun
     Begun { state: 0, start: 0 }
 }
 
-// Joins the innermost open unit that admits the id: 7 where none does, 10 where one inside it is incomplete.
+// Joins the innermost open unit that admits the id: 7 and a unit of zeros where none does, 10 where one inside it is incomplete.
 pub fn join(id: usize, count: usize, top: Begun, o1: Begun, o2: Begun, o3: Begun) -> Joined
     ensures number { λ r. ⌜ r .number ≡ joined (units count top o1 o2 o3) id 0 ⌝ }
     ensures left { λ r. ⌜ units (r .count) (r .top) o1 o2 o3 ≡ advanced id (joining id (units count top o1 o2 o3)) ⌝ }
+    ensures nowhere { λ r. ⌜ (r .number ≡ 7 → r .top ≡ noBegun) ⌝ }
 {
     let mut left = count;
     let mut inner = top;
@@ -76,10 +78,11 @@ pub fn join(id: usize, count: usize, top: Begun, o1: Begun, o2: Begun, o3: Begun
         inner = around(left, o1, o2, o3);
         left = left - 1;
     }
+    let none = Begun { state: 0, start: 0 };
     Joined {
         number: 7,
         count: left,
-        top: inner,
+        top: none,
     }
 }
 

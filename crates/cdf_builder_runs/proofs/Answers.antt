@@ -8,8 +8,9 @@ use Rattle.cdf_unit_prefix.specs.Layout.{Layout}
 use Rattle.cdf_builder_write.specs.Patch.{patch}
 use Rattle.cdf_builder_spec.specs.Place.{stands, standing, fits}
 use Rattle.cdf_builder_spec.specs.Requests.{Request, bytesFor, refused, grown}
-use Rattle.cdf_builder_spec.specs.Calls.{Reply, lengths, writeOf, callNumber, callOf}
-use Rattle.cdf_builder_spec.proofs.Replying.{sizeWith, call-number, call-fit, call-zero, call-done, call-length}
+use Rattle.cdf_builder_spec.specs.Calls.{Reply, lengths, writeOf, callNumber}
+use Rattle.cdf_builder_spec.specs.Orders.{sizeWith}
+use Rattle.cdf_builder_spec.proofs.Replying.{call-number, call-fit, call-zero, call-done, call-length}
 use Rattle.cdf_builder_spec.proofs.Keeping.{call-fits}
 use Rattle.cdf_builder_runs.specs.Runs.{answer, run, AllDone}
 use Rattle.cdf_builder_runs.proofs.Admitted.{placeAfter}
@@ -20,40 +21,33 @@ module _ (l : Layout) where
   Fit a = fits l (length (a .buffer)) (a .place) ≡ true
 
   module _ (a : Reply) (r : Request) where
-    pub answer-is : answer l a r ≡ callOf l (a .buffer) (a .place) r
-    unfolding answer
-    answer-is = refl
-
     pub answer-length : length (answer l a r .buffer) ≡ length (a .buffer)
-    answer-length = rw answer-is (call-length l (a .buffer) (a .place) r)
+    answer-length = call-length l (a .buffer) (a .place) r
 
     module _ (done : answer l a r .number ≡ 0) where
-      zero : callOf l (a .buffer) (a .place) r .number ≡ 0
-      zero = rw answer-is at done
-
       call : callNumber l (length (a .buffer)) (a .place) r ≡ 0
-      call = sym (call-number l (a .buffer) (a .place) r) ∙ zero
+      call = sym (call-number l (a .buffer) (a .place) r) ∙ done
 
       -- What its number 0 tells: the place fits, the request is admitted, and there is room for it.
       pub answer-fit : Fit a
       answer-fit = call-fit l (length (a .buffer)) (a .place) r call
 
       pub answer-called : (refused l (a .place .units) r 0 ≡ 0)
-          × (sizeWith l (length (a .buffer)) (a .place) r ≤ l .limit) × (sizeWith l (length (a .buffer)) (a .place) r ≤ length (a .buffer))
+          × (sizeWith l (a .place) r ≤ l .limit) × (sizeWith l (a .place) r ≤ length (a .buffer))
       answer-called = call-zero l (length (a .buffer)) (a .place) r answer-fit .0 call
 
       pub answer-fits : Fit (answer l a r)
-      answer-fits = rw answer-is (call-fits l (a .buffer) (a .place) r zero)
+      answer-fits = call-fits l (a .buffer) (a .place) r done
 
       pub answer-place : answer l a r .place ≡ grown l (a .place) r
-      answer-place = rw (answer-is, call-done l (a .buffer) (a .place) r zero)
+      answer-place = rw (call-done l (a .buffer) (a .place) r done)
 
       -- What is written: the request's bytes where the writing stands, and the lengths of the units that are then open.
       pub answer-buffer : answer l a r .buffer
           ≡ lengths l (map (stands (grown l (a .place) r .written)) (grown l (a .place) r .units))
           (patch (a .place .written) (bytesFor l r) (a .buffer))
       unfolding writeOf standing
-      answer-buffer = rw (answer-is, call-done l (a .buffer) (a .place) r zero)
+      answer-buffer = rw (call-done l (a .buffer) (a .place) r done)
 
   -- Of all that are done the first is.
   pub first-done : (a : Reply) (rs : List Request) → AllDone l a rs → a .number ≡ 0

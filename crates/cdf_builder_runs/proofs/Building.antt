@@ -9,7 +9,7 @@ use lib.ListN.{length, take, length-take}
 use Rattle.cdf_unit_prefix.specs.Layout.{Layout, layoutOf, prefixOf}
 use Rattle.cdf_unit_prefix.specs.declared.Edition.{Edition}
 use Rattle.cdf_unit_list.specs.Units.{listing}
-use Rattle.cdf_unit_list.specs.Check.{Answer}
+use Rattle.cdf_unit_list.specs.Check.{Answer, checkOf}
 use Rattle.cdf_grammar.specs.Trees.{Forest, none, tree, ids, units}
 use Rattle.cdf_grammar.specs.Published.{InGrammar}
 use Rattle.cdf_grammar.specs.Encoding.{Stream, encode, says}
@@ -17,15 +17,14 @@ use Rattle.cdf_grammar.specs.Claims.{itemsOf}
 use Rattle.cdf_grammar.proofs.Built.{length-unit}
 use Rattle.cdf_grammar.proofs.Agrees.{root-agrees}
 use Rattle.cdf_grammar.proofs.Proved as Grammar
-use Rattle.cdf_reader_spec.specs.Calls.{noUnit}
-use Rattle.cdf_reader_runs.specs.Runs.{afterwards}
+use Rattle.cdf_reader_runs.specs.Runs.{Outcome, due, afterwards}
 use Rattle.cdf_reader_runs.proofs.Proved as Reading
 use Rattle.cdf_builder_spec.specs.Place.{BuilderPlace, fits}
 use Rattle.cdf_builder_spec.specs.Requests.{Request, unit, bytesFor, completed}
 use Rattle.cdf_builder_spec.specs.Calls.{Finish, finishOf}
 use Rattle.cdf_builder_spec.proofs.Fitting.{fitting}
 use Rattle.cdf_builder_runs.specs.Runs.{rootItem, told, Lent, AllLent}
-use Rattle.cdf_builder_runs.specs.Building.{Building, andThen, layout, asked, count, size, first, last, finish, AllZero, Allowed}
+use Rattle.cdf_builder_runs.specs.Building.{Building, andThen, layout, asked, count, size, first, last, finish, AllZero, Allowed, theEnd}
 use Rattle.cdf_builder_runs.specs.Telling.{Tells, Whole, Begins, firstUnits}
 use Rattle.cdf_builder_runs.specs.Claims.{Holds, Builds}
 use Rattle.cdf_builder_runs.proofs.Answers.{first-done, run-length, run-place, run-fits, done-after, done-on}
@@ -58,7 +57,7 @@ unfolding itemsOf
 none-listed l s e = rw e
 
 -- What the reader tells past the last unit of an accepted stream.
-the-end : (n : ℕ) → afterwards (record { number = 0; value = n }) ≡ record { number = 1; offset = 0; unit = noUnit }
+the-end : (n : ℕ) → afterwards (record { number = 0; value = n }) ≡ theEnd
 unfolding afterwards
 the-end n = refl
 
@@ -70,13 +69,14 @@ stream-holds e front t rs p tells =
     let items : itemsOf l front ≡ told l rs = stream-says e front t p ∙ told-says e t rs tells in
     let accepted = Grammar.proved .streams e .counted front t p in
     let count : units t ≡ length (told l rs) = sym (length-says t) ∙ ap length (told-says e t rs tells) in
+    let end : afterwards (checkOf l front) ≡ theEnd = ap afterwards accepted ∙ the-end (units t) in
     let root = root-agrees t .0 (p .tree .root) in
     let some : listing l front .units ≡ [] → ⊥ =
     λ z. says-some t (root .0) (root .1) (sym (stream-says e front t p) ∙ none-listed l front z) in
     record {
       encoded = sym (p .bytes);
       checked = accepted ∙ ap {B = Answer} (λ n. record { number = 0; value = n }) count;
-      read = λ k. Reading.proved .reads l front some k ∙ rw (accepted, the-end);
+      read = λ k. Reading.proved .reads l front some k ∙ ap (λ (x : Outcome). due x (listing l front .units) k) end;
       same = items;
     }
 
@@ -92,20 +92,21 @@ module _ (b : Building) where
   unfolding bytesFor
   root-size = length-unit l (b .root) 0 [] [] ∙ omega arith
 
-  module _ (lent : AllLent (b .calls)) (done : AllZero b) where
+  module _ (done : AllZero b) where
     start : Begun l (b .buffer) (b .root) (first b)
     start = begun (b .edition) (b .buffer) (b .root) (first-done l (first b) (b .calls) done)
-
-    kept : KeptBy l (b .buffer) (last b) (asked b)
-    kept =
-        kept-run (b .edition) (b .buffer) (first b) (unit (rootItem (b .root)) ∷ []) (b .calls) lent
-        (kept-start l (b .buffer) (b .root) (first-done l (first b) (b .calls) done)) done
 
     fit : fits l (length (b .buffer)) (last b .place) ≡ true
     fit = rw (run-length l (first b) (b .calls), start .long) at (run-fits l (b .calls) (first b) (start .fit) done)
 
     pub written : last b .place .written ≡ size b
     written = run-written l (b .calls) (first b) done ∙ rw (start .place, sizes-on, root-size)
+
+  module _ (lent : AllLent (b .calls)) (done : AllZero b) where
+    kept : KeptBy l (b .buffer) (last b) (asked b)
+    kept =
+        kept-run (b .edition) (b .buffer) (first b) (unit (rootItem (b .root)) ∷ []) (b .calls) lent
+        (kept-start l (b .buffer) (b .root) (first-done l (first b) (b .calls) done)) done
 
     abbrev front : List ℕ
     front = take (last b .place .written) (last b .buffer)
@@ -117,11 +118,11 @@ module _ (b : Building) where
     ends full = all-ended l (last b .place .written) (last b .place .units) (asked b) front full (kept .spine)
 
     complete : Whole l (asked b) → completed (last b .place .units) ≡ true
-    complete w = rw (run-place l (first b) (b .calls) done, start .place) (forward (b .edition) (b .root) (b .calls) w .2)
+    complete w = rw (run-place l (first b) (b .calls) done, start done .place) (forward (b .edition) (b .root) (b .calls) w .2)
 
     -- So finish answers 0 exactly where some tree is told as a whole.
     whole-answer : completed (last b .place .units) ≡ true → finish b ≡ record { number = 0; length = size b }
-    whole-answer full = finish-whole l (length (b .buffer)) (last b .place) fit full ∙ rw written
+    whole-answer full = finish-whole l (length (b .buffer)) (last b .place) (fit done) full ∙ rw (written done)
 
     full-by : finish b .number ≡ 0 → completed (last b .place .units) ≡ true
     full-by z = go (completed (last b .place .units)) refl
@@ -129,29 +130,26 @@ module _ (b : Building) where
         go : (c : Bool) → completed (last b .place .units) ≡ c → completed (last b .place .units) ≡ true
         go true e = e
         go false e =
-            let ten = ap (λ (f : Finish). f .number) (finish-lacks l (length (b .buffer)) (last b .place) fit e) in
+            let ten = ap (λ (f : Finish). f .number) (finish-lacks l (length (b .buffer)) (last b .place) (fit done) e) in
             absurd (omega (arith, ten, z))
 
-    pub ends-by : finish b .number ≡ 0 → Ended l (asked b) front
-    ends-by z = ends (full-by z)
+    pub whole-by : finish b .number ≡ 0 → Whole l (asked b)
+    whole-by z = let w = ends (full-by z) in (w .told, w .grammar, w .tells)
 
     finished : (finish b ≡ record { number = 0; length = size b }) ↔ Whole l (asked b)
-    finished = (
-      λ z. let w = ends-by (ap (λ (f : Finish). f .number) z) in (w .told, w .grammar, w .tells),
-      λ w. whole-answer (complete w),
-    )
+    finished = (λ z. whole-by (ap (λ (f : Finish). f .number) z), λ w. whole-answer (complete w))
 
     lacking : (Whole l (asked b) → ⊥) → finish b ≡ record { number = 10; length = 0 }
     lacking bare = go (completed (last b .place .units)) refl
       where
         go : (c : Bool) → completed (last b .place .units) ≡ c → finish b ≡ record { number = 10; length = 0 }
         go true e = let w = ends e in absurd (bare (w .told, w .grammar, w .tells))
-        go false e = finish-lacks l (length (b .buffer)) (last b .place) fit e
+        go false e = finish-lacks l (length (b .buffer)) (last b .place) (fit done) e
 
     begun-front : (t : Forest) (more : List Request) → InGrammar t → Tells l t (asked b ++ more) →
         take (size b) (last b .buffer) ≡ encode l (firstUnits t (count b))
     begun-front t more grammar tells =
-        rw (← written) (front-first (b .edition) (last b .place .written) (last b .place .units) (rootItem (b .root)) (b .calls) front
+        rw (← written done) (front-first (b .edition) (last b .place .written) (last b .place .units) (rootItem (b .root)) (b .calls) front
         (kept .spine) t more grammar tells)
 
     holds : (t : Forest) → InGrammar t → Tells l t (asked b) → Holds l (take (finish b .length) (last b .buffer)) t (asked b)
@@ -159,8 +157,8 @@ module _ (b : Building) where
         let full = complete (t, grammar, tells) in
         let w = ends full in
         let same : w .told ≡ t = told-once (b .edition) (w .told) t (asked b) (w .grammar) grammar (w .tells) tells in
-        let limit = fitting l (length (b .buffer)) (last b .place) fit .limit in
-        rw (finish-whole l (length (b .buffer)) (last b .place) fit full)
+        let limit = fitting l (length (b .buffer)) (last b .place) (fit done) .limit in
+        rw (finish-whole l (length (b .buffer)) (last b .place) (fit done) full)
         (stream-holds (b .edition) front t (asked b)
         (record { tree = grammar; within = simp length-take (omega (arith, limit)); bytes = sym (w .bytes ∙ ap (encode l) same) }) tells)
 
@@ -184,7 +182,7 @@ builds b lent done = record {
         λ w. done-after l (first b) (b .calls) (r ∷ []) (all .1 w) .1,
       );
   begun = begun-front b lent done;
-  behind = rw (← written b lent done) (kept b lent done .behind);
+  behind = rw (← written b done) (kept b lent done .behind);
   finished = finished b lent done;
   lacking = lacking b lent done;
   built = holds b lent done;

@@ -1,5 +1,5 @@
 -- Trees after trees: their ids, their encoding, that they conform, and which requests tell of them.
-use mathlib.Core.Path.{_≡_, refl, sym, ap}
+use mathlib.Core.Path.{_≡_, refl, sym}
 use mathlib.Core.List.{List, _++_, append-assoc}
 use mathlib.Core.Logic.{inl, inr, ⊎-elim}
 use Rattle.cdf_unit_prefix.specs.Layout.{Layout}
@@ -13,11 +13,6 @@ use Rattle.cdf_builder_runs.specs.Telling.{Tells}
 unfoldable pub append : Forest → Forest → Forest
 append none g = g
 append (tree id action text inner rest) g = tree id action text inner (append rest g)
-
-pub append-none : (f : Forest) → append f none ≡ f
-unfolding append
-append-none none = refl
-append-none (tree id action text inner rest) = ap (tree id action text inner) (append-none rest)
 
 pub ids-append : (f g : Forest) → ids (append f g) ≡ ids f ++ ids g
 unfolding append ids

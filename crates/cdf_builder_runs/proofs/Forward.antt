@@ -10,6 +10,7 @@ use Rattle.cdf_unit_table.specs.States.{admit, complete, nothing, opens, rootKi
 use Rattle.cdf_unit_table.specs.Heights.{height}
 use Rattle.cdf_unit_table.proofs.Heights.{level, admit-lower, opens-lower}
 use Rattle.cdf_unit_table.proofs.Rows.{opens-by, root-opens}
+use Rattle.cdf_unit_table.proofs.Bools.{clash}
 use Rattle.cdf_unit_prefix.specs.Layout.{Layout, layoutOf}
 use Rattle.cdf_unit_prefix.specs.declared.Edition.{Edition}
 use Rattle.cdf_unit_list.specs.Check.{Answer, checkOf}
@@ -54,7 +55,7 @@ all-completed : {units : List Begun} {o : Begun} → At units o [] → complete 
 unfolding completed
 all-completed {o = o} a full = rw (a .are) (shut-completed _ (a .inside) (o ∷ []) (a .shut) (rw full))
 
-pub through-stays : (state : ℕ) (cs : List ℕ) → (through state cs ≡ 0 → ⊥) → unitOf (through state cs) ≡ unitOf state
+through-stays : (state : ℕ) (cs : List ℕ) → (through state cs ≡ 0 → ⊥) → unitOf (through state cs) ≡ unitOf state
 unfolding through
 through-stays state [] some = refl
 through-stays state (c ∷ cs) some =
@@ -191,7 +192,7 @@ module _ (l : Layout) where
 
     tree-leads : (t : Forest) → InGrammar t → (id : ℕ) (rs : List Request) → Tells l t (unit (rootItem id) ∷ rs) → Finished id rs
     unfolding ids
-    tree-leads none g id rs told = let z : _≡_ {A = ℕ} 0 1 = cc in absurd (omega arith)
+    tree-leads none g id rs told = clash cc
     tree-leads (tree i action text inner none) g id rs (inl (within, after, e, told, later)) =
         let (kind, one, root) = root-agrees (tree i action text inner none) .0 (g .root) in
         let item : rootItem id ≡ record { id = i; action = action; text = text } = cc in
@@ -202,9 +203,9 @@ module _ (l : Layout) where
         rw (same, all) (root-leads i action text inner is (g .conforms) within told)
     tree-leads (tree i action text inner (tree j a x f h)) g id rs told =
         let (kind, one, root) = root-agrees (tree i action text inner (tree j a x f h)) .0 (g .root) in
-        let z : _≡_ {A = ℕ} 0 1 = cc in absurd (omega arith)
+        clash cc
     tree-leads (tree i action text inner none) g id rs (inr (b, after, e, kind, s, later)) =
-        let z : _≡_ {A = ℕ} 0 1 = cc in absurd (omega arith)
+        clash cc
 
 pub forward : (e : Edition) (id : ℕ) (rs : List Request) → Whole (layoutOf e) (unit (rootItem id) ∷ rs) →
     Finished (layoutOf e) id rs

@@ -139,7 +139,7 @@ module _ (l : Layout) (s : List ℕ) (p : BuilderPlace) (buffer : List ℕ) (rs 
       })
 
 -- A call that is done.
-pub kept-call : (e : Edition) (s : List ℕ) (a : Reply) (rs : List Request) (r : Request) → Lent r → KeptBy (layoutOf e) s a rs →
+kept-call : (e : Edition) (s : List ℕ) (a : Reply) (rs : List Request) (r : Request) → Lent r → KeptBy (layoutOf e) s a rs →
     answer (layoutOf e) a r .number ≡ 0 → KeptBy (layoutOf e) s (answer (layoutOf e) a r) (rs ++ (r ∷ []))
 kept-call e s a rs r lent k zero =
     let l = layoutOf e in

@@ -26,7 +26,7 @@ low-append (tree id action text inner rest) g (p, within, after) b = (p, within,
 
 module _ (l : Layout) where
   -- The units in an open unit are of one height,
-  pub had-height : (fs : List Frame) (f : Frame) (kids : Forest) (o : Begun) → HeldUnit l fs f kids o → OfHeight (level (f .id)) (ids kids)
+  had-height : (fs : List Frame) (f : Frame) (kids : Forest) (o : Begun) → HeldUnit l fs f kids o → OfHeight (level (f .id)) (ids kids)
   had-height fs f kids o u =
       rw (opens-lower (f .id) (u .parent) .own) at (through-height (nothing (f .id)) (ids kids) (λ z. u .some (u .state ∙ z)))
 

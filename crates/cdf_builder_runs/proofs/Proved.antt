@@ -11,10 +11,9 @@ use Rattle.cdf_grammar.specs.Encoding.{Item}
 use Rattle.cdf_builder_spec.specs.Requests.{Request, unit}
 use Rattle.cdf_builder_spec.specs.Calls.{Reply}
 use Rattle.cdf_builder_spec.proofs.Replying.{call-kept}
-use Rattle.cdf_builder_runs.specs.Runs.{answer, run, AllDone, done, told}
+use Rattle.cdf_builder_runs.specs.Runs.{answer, run, AllDone, done, Alike, told}
 use Rattle.cdf_builder_runs.specs.Telling.{Begins, BeginUnits}
 use Rattle.cdf_builder_runs.specs.Claims.{Claims}
-use Rattle.cdf_builder_runs.proofs.Answers.{answer-is}
 use Rattle.cdf_builder_runs.proofs.Ending.{tells-units}
 use Rattle.cdf_builder_runs.proofs.Said.{told-says, told-units, told-append}
 use Rattle.cdf_builder_runs.proofs.Building.{accepted, builds}
@@ -38,33 +37,29 @@ module _ (l : Layout) where
       (answer l a r .place ≡ a .place) × (answer l a r .buffer ≡ a .buffer)
   stays a r e =
       let some = eqb-false (answer l a r .number) 0 e in
-      rw (answer-is l a r) (call-kept l (a .buffer) (a .place) r (λ z. some (rw (answer-is l a r) z)))
+      call-kept l (a .buffer) (a .place) r some
 
   -- Of a reply only the place and the buffer matter to what follows.
-  pub same-answer : (a b : Reply) (r : Request) → a .place ≡ b .place → a .buffer ≡ b .buffer → answer l a r ≡ answer l b r
-  unfolding answer
+  same-answer : (a b : Reply) (r : Request) → a .place ≡ b .place → a .buffer ≡ b .buffer → answer l a r ≡ answer l b r
   same-answer a b r p s = rw (p, s)
 
-  abbrev Same : Reply → Reply → Type 0
-  Same a b = (a .place ≡ b .place) × (a .buffer ≡ b .buffer)
-
-  same-run : (a b : Reply) (rs : List Request) → Same a b → Same (run l a rs) (run l b rs)
+  same-run : (a b : Reply) (rs : List Request) → Alike a b → Alike (run l a rs) (run l b rs)
   unfolding run
   same-run a b [] e = e
   same-run a b (r ∷ rs) e =
       let same = same-answer a b r (e .0) (e .1) in
       (ap (λ (c : Reply). run l c rs .place) same, ap (λ (c : Reply). run l c rs .buffer) same)
 
-  refusals : (a : Reply) → a .number ≡ 0 → (rs : List Request) → AllDone l a (done l a rs) × Same (run l a rs) (run l a (done l a rs))
+  refusals : (a : Reply) → a .number ≡ 0 → (rs : List Request) → AllDone l a (done l a rs) × Alike (run l a rs) (run l a (done l a rs))
   unfolding run done
   refusals a z [] = (z, (refl, refl))
   refusals a z (r ∷ rs) = go (eqb (answer l a r .number) 0) refl (refusals a z rs) (λ e. refusals (answer l a r) e rs)
     where
-      go : (b : Bool) → eqb (answer l a r .number) 0 ≡ b → AllDone l a (done l a rs) × Same (run l a rs) (run l a (done l a rs)) →
+      go : (b : Bool) → eqb (answer l a r .number) 0 ≡ b → AllDone l a (done l a rs) × Alike (run l a rs) (run l a (done l a rs)) →
           (answer l a r .number ≡ 0 → AllDone l (answer l a r) (done l (answer l a r) rs)
-          × Same (run l (answer l a r) rs) (run l (answer l a r) (done l (answer l a r) rs))) →
+          × Alike (run l (answer l a r) rs) (run l (answer l a r) (done l (answer l a r) rs))) →
           AllDone l a (cond b (r ∷ done l (answer l a r) rs) (done l a rs))
-          × Same (run l (answer l a r) rs) (run l a (cond b (r ∷ done l (answer l a r) rs) (done l a rs)))
+          × Alike (run l (answer l a r) rs) (run l a (cond b (r ∷ done l (answer l a r) rs) (done l a rs)))
       go true e stay on = let w = on (eqb-true (answer l a r .number) 0 e) in ((z, w .0), w .1)
       go false e stay on =
           let same = same-run (answer l a r) a rs (stays a r e) in
@@ -74,7 +69,7 @@ pub proved : Claims
 proved = record {
   accepted = accepted;
   builds = builds;
-  refusals = λ l a z rs. let w = refusals l a z rs in (w .0, w .1 .0, w .1 .1);
+  refusals = refusals;
   plain = plain;
   samples = computed;
 }

@@ -19,7 +19,7 @@ use Rattle.cdf_builder_spec.proofs.Replying.{rootPlace, grown-written, start-ze
 use Rattle.cdf_builder_spec.proofs.Keeping.{start-fits}
 use Rattle.cdf_builder_runs.specs.Runs.{answer, run, AllDone, sizes}
 use Rattle.cdf_builder_runs.proofs.Admitted.{Admitted}
-use Rattle.cdf_builder_runs.proofs.Answers.{Fit, answer-is, answer-called, answer-fits, answer-place, answer-length, first-done}
+use Rattle.cdf_builder_runs.proofs.Answers.{Fit, answer-called, answer-fits, answer-place, answer-length, first-done}
 
 module _ (l : Layout) where
   -- What is written, with the bytes of these requests, is within the limit and the buffer.
@@ -68,9 +68,8 @@ module _ (l : Layout) where
   admitted-done (r ∷ rs) a e fit all room =
       let size = sizes-on r rs in
       let done : answer l a r .number ≡ 0 =
-      rw (answer-is l a r)
-      (call-number l (a .buffer) (a .place) r
-      ∙ call-zero l (length (a .buffer)) (a .place) r fit .1 (all .0, omega (arith, room .0), omega (arith, room .1))) in
+      call-number l (a .buffer) (a .place) r
+      ∙ call-zero l (length (a .buffer)) (a .place) r fit .1 (all .0, omega (arith, room .0), omega (arith, room .1)) in
       (e, admitted-done rs (answer l a r) done (answer-fits l a r done) (rw (answer-place l a r done) (all .1)) (roomy-on a r done rs .1 room))
 
   -- A start with this id and these requests are admitted, and all their bytes have room in a buffer of n.

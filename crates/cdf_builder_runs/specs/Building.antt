@@ -4,6 +4,8 @@ use mathlib.Core.List.{List, _∷_, _++_}
 use lib.ListN.{length}
 use Rattle.cdf_unit_prefix.specs.Layout.{Layout, layoutOf}
 use Rattle.cdf_unit_prefix.specs.declared.Edition.{Edition}
+use Rattle.cdf_reader_spec.specs.Calls.{noUnit}
+use Rattle.cdf_reader_runs.specs.Runs.{Outcome}
 use Rattle.cdf_builder_spec.specs.Requests.{Request, unit}
 use Rattle.cdf_builder_spec.specs.Calls.{Reply, startOf, Finish, finishOf}
 use Rattle.cdf_builder_runs.specs.Runs.{rootItem, run, AllDone, sizes, told}
@@ -51,3 +53,7 @@ AllZero b = AllDone (layout b) (first b) (b .calls)
 -- What is asked for begins a tree of the published grammar; its bytes are within the limit and have room in the buffer.
 abbrev pub Allowed : Building → Type 0
 Allowed b = Begins (layout b) (asked b) × (size b ≤ layout b .limit) × (size b ≤ length (b .buffer))
+
+-- What the reader tells past the last unit of an accepted stream.
+abbrev pub theEnd : Outcome
+theEnd = record { number = 1; offset = 0; unit = noUnit }

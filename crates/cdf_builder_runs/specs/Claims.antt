@@ -1,5 +1,6 @@
--- Demand 2, the builder's half: what a start and the calls after it come to. The words are in specs/Building and specs/Telling; the
--- term of this record stands in proofs/Proved.
+-- Demand 2, the builder's half: exactly the lists of units that begin a tree of the published grammar are built, the bytes are that
+-- tree's one encoding, and reading them gives the units back. `b` is a start and the calls after it, in the words of specs/Building;
+-- by which requests a tree is told stands in specs/Telling. The term of this record stands in proofs/Proved.
 use Prim.Native.Nat.{ℕ}
 use mathlib.Core.Path.{_≡_}
 use mathlib.Core.List.{List, [], _∷_, _++_, map}
@@ -13,13 +14,12 @@ use Rattle.cdf_grammar.specs.Trees.{Forest}
 use Rattle.cdf_grammar.specs.Published.{InGrammar}
 use Rattle.cdf_grammar.specs.Encoding.{encode, Item}
 use Rattle.cdf_grammar.specs.Claims.{itemsOf}
-use Rattle.cdf_reader_spec.specs.Calls.{noUnit}
 use Rattle.cdf_reader_runs.specs.Runs.{reading, outcome}
 use Rattle.cdf_reader_runs.specs.Runs as Reading
 use Rattle.cdf_builder_spec.specs.Requests.{Request, unit}
 use Rattle.cdf_builder_spec.specs.Calls.{Reply}
-use Rattle.cdf_builder_runs.specs.Runs.{answer, run, AllDone, done, told, Lent, AllLent}
-use Rattle.cdf_builder_runs.specs.Building.{Building, andThen, layout, asked, count, size, last, finish, AllZero, Allowed}
+use Rattle.cdf_builder_runs.specs.Runs.{answer, run, AllDone, done, Alike, told, Lent, AllLent}
+use Rattle.cdf_builder_runs.specs.Building.{Building, andThen, layout, asked, count, size, last, finish, AllZero, Allowed, theEnd}
 use Rattle.cdf_builder_runs.specs.Samples.{found, due}
 use Rattle.cdf_builder_runs.specs.Telling.{Tells, Whole, Begins, BeginUnits, firstUnits}
 
@@ -30,7 +30,7 @@ pub record Holds (l : Layout) (front : List ℕ) (t : Forest) (rs : List Request
   -- The check accepts them, with as many units as were asked for.
   pub checked : checkOf l front ≡ record { number = 0; value = length (told l rs) }
   -- A start and nexts of the reader hand out these units, one after the other, and then the end for ever;
-  pub read : (k : ℕ) → outcome (reading l front k) ≡ Reading.due (record { number = 1; offset = 0; unit = noUnit }) (listing l front .units) k
+  pub read : (k : ℕ) → outcome (reading l front k) ≡ Reading.due theEnd (listing l front .units) k
   -- and they say what was asked for, in the same order: id, action and own data.
   pub same : itemsOf l front ≡ told l rs
 
@@ -59,8 +59,7 @@ pub record Claims : Type 0 where
   pub builds : (b : Building) → AllLent (b .calls) → AllZero b → Builds b
   -- A call that is refused changes nothing: place and buffer are those of the calls that answered 0.
   pub refusals : (l : Layout) (a : Reply) → a .number ≡ 0 → (rs : List Request) →
-      AllDone l a (done l a rs)
-      × (run l a rs .place ≡ run l a (done l a rs) .place) × (run l a rs .buffer ≡ run l a (done l a rs) .buffer)
+      AllDone l a (done l a rs) × Alike (run l a rs) (run l a (done l a rs))
   -- Units alone begin a tree exactly if they are the first that some tree says.
   pub plain : (e : Edition) (us : List Item) → Begins (layoutOf e) (map unit us) ↔ BeginUnits us
   -- Runs that are computed: the claims are not vacuous.

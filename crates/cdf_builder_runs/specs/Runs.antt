@@ -16,13 +16,12 @@ abbrev pub rootItem : ℕ → Item
 rootItem id = record { id = id; action = 0; text = [] }
 
 -- What a call answers after the one that answered `a`.
-unfoldable pub answer : Layout → Reply → Request → Reply
-unfolding callOf
+abbrev pub answer : Layout → Reply → Request → Reply
 answer l a r = callOf l (a .buffer) (a .place) r
 
 -- The last answer of these calls.
 unfoldable pub run : Layout → Reply → List Request → Reply
-unfolding answer
+unfolding callOf
 run l a [] = a
 run l a (r ∷ rs) = run l (answer l a r) rs
 
@@ -33,10 +32,14 @@ AllDone l a (r ∷ rs) = (a .number ≡ 0) × AllDone l (answer l a r) rs
 
 -- The calls that answer 0; the others are left out.
 unfoldable pub done : Layout → Reply → List Request → List Request
-unfolding answer
+unfolding callOf
 done l a [] = []
 done l a (r ∷ rs) =
     cond (eqb (answer l a r .number) 0) (r ∷ done l (answer l a r) rs) (done l a rs)
+
+-- Two replies leave the same place and the same buffer.
+abbrev pub Alike : Reply → Reply → Type 0
+Alike a b = (a .place ≡ b .place) × (a .buffer ≡ b .buffer)
 
 -- How many bytes the requests take.
 unfoldable pub sizes : Layout → List Request → ℕ

@@ -1,13 +1,13 @@
--- Runs of the builder that are computed: the units of K2, a list that is refused at its third unit, one that is refused at the
+-- Runs of the builder that are computed: the units of K2, a list that is refused at its third unit, two that are refused at the
 -- end, and a group after a call (01, "Samples").
 use Prim.Native.Nat.{ℕ, zero, suc}
 use mathlib.Core.List.{List, [], _∷_, _++_}
-use Rattle.cdf_unit_table.specs.Ids.{stream, call, erGroup, template, temporaryKey, field}
+use Rattle.cdf_unit_table.specs.Ids.{stream, call, erGroup, template, temporaryKey, field, relation, relationKey}
 use Rattle.cdf_unit_prefix.specs.Layout.{Layout}
 use Rattle.cdf_unit_prefix.specs.declared.Edition.the-variants.{First}
 use Rattle.cdf_unit_list.specs.Samples.{k2}
 use Rattle.cdf_builder_spec.specs.Requests.{Request, unit, group}
-use Rattle.cdf_builder_spec.specs.Calls.{Reply, startOf, Finish, finishOf}
+use Rattle.cdf_builder_spec.specs.Calls.{Reply, startOf, callOf, Finish, finishOf}
 use Rattle.cdf_builder_runs.specs.Runs.{answer, run}
 use Rattle.cdf_builder_runs.specs.Building.{Building, layout, first, last, finish}
 
@@ -18,7 +18,7 @@ blank (suc n) = 255 ∷ blank n
 
 -- The numbers of a start and of the calls after it.
 unfoldable pub numbers : Layout → Reply → List Request → List ℕ
-unfolding answer
+unfolding callOf
 numbers l a [] = a .number ∷ []
 numbers l a (r ∷ rs) = a .number ∷ numbers l (answer l a r) rs
 
@@ -55,6 +55,13 @@ surname = ask field 1 (7 ∷ 0x53 ∷ 0x55 ∷ 0x52 ∷ 0x4e ∷ 0x41 ∷ 0x4d �
 abbrev merge : Request
 merge = ask call 0 (5 ∷ 0x4d ∷ 0x45 ∷ 0x52 ∷ 0x47 ∷ 0x45 ∷ [])
 
+-- a relation and the first of its two keys
+abbrev link : Request
+link = ask relation 1 (0 ∷ 0 ∷ 0 ∷ 7 ∷ [])
+
+abbrev source : Request
+source = ask relationKey 0 (0 ∷ 0 ∷ 0 ∷ 8 ∷ [])
+
 abbrev pub found : List Outcome
 found =
     building 50 erGroup (person ∷ key ∷ surname ∷ [])
@@ -62,6 +69,8 @@ found =
     ∷ building 50 erGroup (person ∷ surname ∷ key ∷ [])
     -- no key at all
     ∷ building 20 erGroup (person ∷ [])
+    -- one key of two: the relation's length counts it
+    ∷ building 30 erGroup (link ∷ source ∷ [])
     -- a group whose bytes are given; a template after it has no place
     ∷ building 64 stream (merge ∷ group k2 ∷ person ∷ [])
     ∷ []
@@ -79,6 +88,8 @@ due =
     ∷ outcome (0 ∷ 0 ∷ 7 ∷ 0 ∷ []) 0 29
     (prefix 29 0 erGroup ++ (prefix 23 1 template ++ (name ++ (prefix 10 0 temporaryKey ++ (0 ∷ 0 ∷ 0 ∷ 1 ∷ blank 21)))))
     ∷ outcome (0 ∷ 0 ∷ []) 10 0 (prefix 19 0 erGroup ++ (prefix 13 1 template ++ (name ++ blank 1)))
+    ∷ outcome (0 ∷ 0 ∷ 0 ∷ []) 10 0
+    (prefix 26 0 erGroup ++ (prefix 20 1 relation ++ (0 ∷ 0 ∷ 0 ∷ 7 ∷ (prefix 10 0 relationKey ++ (0 ∷ 0 ∷ 0 ∷ 8 ∷ blank 4)))))
     ∷ outcome (0 ∷ 0 ∷ 0 ∷ 7 ∷ []) 0 64
     (prefix 64 0 stream ++ (prefix 12 0 call ++ ((5 ∷ 0x4d ∷ 0x45 ∷ 0x52 ∷ 0x47 ∷ 0x45 ∷ []) ++ k2)))
     ∷ []

@@ -31,19 +31,19 @@ ending-cons : (id : ℕ) (o : Begun) (os : List Begun) →
 unfolding ending
 ending-cons id o os = refl
 
-joined-tests : (os : List Begun) (id next : ℕ) →
+pub joined-tests : (os : List Begun) (id next : ℕ) →
     joined os id next ≡ cond (eqb (length (joining id os)) 0) 7 (cond (not (completed (ending id os))) 10 next)
 unfolding joined
 joined-tests os id next = refl
 
-unit-tests : (l : Layout) (os : List Begun) (u : Item) (next : ℕ) →
+pub unit-tests : (l : Layout) (os : List Begun) (u : Item) (next : ℕ) →
     refused l os (unit u) next
     ≡ cond (not (known (u .id))) 6
     (joined os (u .id) (cond (not (actionAllowed (u .id) (u .action))) 8 (cond (not (rightData (u .id) (u .text))) 9 next)))
 unfolding refused
 unit-tests l os u next = refl
 
-group-tests : (l : Layout) (os : List Begun) (g : List ℕ) (next : ℕ) →
+pub group-tests : (l : Layout) (os : List Begun) (g : List ℕ) (next : ℕ) →
     refused l os (group g) next ≡ cond (not (acceptedGroup l g)) 14 (joined os (idAt l g) next)
 unfolding refused
 group-tests l os g next = refl

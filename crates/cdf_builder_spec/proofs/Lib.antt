@@ -4,4 +4,5 @@ pub mod Joining
 pub mod Lengths
 pub mod Replying
 pub mod Keeping
+pub mod Orders
 pub mod Proved

@@ -8,6 +8,7 @@ use Rattle.cdf_builder_spec.specs.Claims.{Claims}
 use Rattle.cdf_builder_spec.proofs.Fitting.{at-most-four, fitting}
 use Rattle.cdf_builder_spec.proofs.Replying.{start-kept, call-kept}
 use Rattle.cdf_builder_spec.proofs.Keeping.{start-fits, call-fits}
+use Rattle.cdf_builder_spec.proofs.Orders.{start-order, next-order, add-order, finish-order, decided}
 
 decides : missesFound ≡ missesDue
 unfolding missesFound clauses standing nested every positioned unitOf rootKind admitsKind skipped
@@ -21,4 +22,9 @@ proved = record {
   refused-start = start-kept;
   refused-stays = call-kept;
   four = λ l n p e. at-most-four p (fitting l n p e .kinds);
+  start-order = start-order;
+  next-order = next-order;
+  add-order = add-order;
+  finish-order = finish-order;
+  decided = decided;
 }

@@ -15,10 +15,12 @@ use Rattle.cdf_unit_table.proofs.Match.{each, among}
 use Rattle.cdf_unit_prefix.specs.Layout.{Layout, prefixOf}
 use Rattle.cdf_grammar.specs.Encoding.{unitBytes, Item}
 use Rattle.cdf_builder_write.specs.Patch.{patch}
+use Rattle.cdf_builder_write.proofs.Lent.{length-alone}
 use Rattle.cdf_builder_spec.specs.declared.Begun.{Begun}
 use Rattle.cdf_builder_spec.specs.Place.{BuilderPlace, fits}
 use Rattle.cdf_builder_spec.specs.Requests.{Request, unit, group, idOf, bytesFor, joining, advanced, entering, refused, grown}
 use Rattle.cdf_builder_spec.specs.Calls.{Reply, noPlace, room, startNumber, startOf, callNumber, decideOf, writeOf, callOf}
+use Rattle.cdf_builder_spec.specs.Orders.{sizeWith}
 use Rattle.cdf_builder_spec.proofs.Joining.{Joins, refused-is, refused-then}
 use Rattle.cdf_builder_spec.proofs.Lengths.{length-write}
 
@@ -26,11 +28,11 @@ use Rattle.cdf_builder_spec.proofs.Lengths.{length-write}
 abbrev pub rootPlace : Layout → ℕ → BuilderPlace
 rootPlace l id = record { written = prefixOf l; units = record { state = nothing id; start = 0 } ∷ [] }
 
-room-tests : (l : Layout) (n size : ℕ) → room l n size ≡ cond (ltb (l .limit) size) 13 (cond (ltb n size) 12 0)
+pub room-tests : (l : Layout) (n size : ℕ) → room l n size ≡ cond (ltb (l .limit) size) 13 (cond (ltb n size) 12 0)
 unfolding room
 room-tests l n size = refl
 
-start-tests : (l : Layout) (n id : ℕ) →
+pub start-tests : (l : Layout) (n id : ℕ) →
     startNumber l n id ≡ cond (not (known id)) 6 (cond (not (rootKind id)) 7 (cond (ltb n (prefixOf l)) 12 0))
 unfolding startNumber
 start-tests l n id = refl
@@ -43,7 +45,7 @@ start-is : (l : Layout) (s : List ℕ) (id : ℕ) →
 unfolding startOf
 start-is l s id = refl
 
-call-tests : (l : Layout) (n : ℕ) (p : BuilderPlace) (r : Request) →
+pub call-tests : (l : Layout) (n : ℕ) (p : BuilderPlace) (r : Request) →
     callNumber l n p r
     ≡ cond (not (fits l n p)) 2 (refused l (p .units) r (room l n (p .written + length (bytesFor l r))))
 unfolding callNumber
@@ -54,7 +56,7 @@ decide-is : (l : Layout) (n : ℕ) (p : BuilderPlace) (r : Request) →
 unfolding decideOf
 decide-is l n p r = refl
 
-call-is : (l : Layout) (s : List ℕ) (p : BuilderPlace) (r : Request) →
+pub call-is : (l : Layout) (s : List ℕ) (p : BuilderPlace) (r : Request) →
     callOf l s p r
     ≡ record {
       number = decideOf l (length s) p r .number;
@@ -96,6 +98,9 @@ pub bytes-unit : (l : Layout) (u : Item) → bytesFor l (unit u) ≡ unitBytes l
 unfolding bytesFor
 bytes-unit l u = refl
 
+pub unit-size : (l : Layout) (u : Item) → length (bytesFor l (unit u)) ≡ prefixOf l + length (u .text)
+unit-size l u = rw (bytes-unit l u) (length-alone l (u .id) (u .action) (u .text))
+
 -- A root's kind is known.
 root-known : (id : ℕ) → rootKind id ≡ true → known id ≡ true
 unfolding rootKind known
@@ -134,33 +139,29 @@ module _ (l : Layout) (s : List ℕ) (id : ℕ) where
 
 -- A call's number is 0 exactly if the place fits, the request is right and there is room for it.
 module _ (l : Layout) (n : ℕ) (p : BuilderPlace) (r : Request) where
-  -- How many bytes there are with the request's.
-  abbrev pub sizeWith : ℕ
-  sizeWith = p .written + length (bytesFor l r)
-
   pub call-fit : callNumber l n p r ≡ 0 → fits l n p ≡ true
   call-fit e = not-false (fits l n p) (past (not (fits l n p)) 2 _ (λ z. omega arith) (sym (call-tests l n p r) ∙ e) .0)
 
-  room-zero : (room l n sizeWith ≡ 0) ↔ ((sizeWith ≤ l .limit) × (sizeWith ≤ n))
+  room-zero : (room l n (sizeWith l p r) ≡ 0) ↔ ((sizeWith l p r ≤ l .limit) × (sizeWith l p r ≤ n))
   room-zero = (
     λ e.
-        let a = past (ltb (l .limit) sizeWith) 13 _ (λ z. omega arith) (sym (room-tests l n sizeWith) ∙ e) in
-        let b = past (ltb n sizeWith) 12 0 (λ z. omega arith) (a .1) in
-        (ltb-false (l .limit) sizeWith (a .0), ltb-false n sizeWith (b .0)),
-    λ w. rw (room-tests l n sizeWith, le-ltb (l .limit) sizeWith (w .0), le-ltb n sizeWith (w .1)),
+        let a = past (ltb (l .limit) (sizeWith l p r)) 13 _ (λ z. omega arith) (sym (room-tests l n (sizeWith l p r)) ∙ e) in
+        let b = past (ltb n (sizeWith l p r)) 12 0 (λ z. omega arith) (a .1) in
+        (ltb-false (l .limit) (sizeWith l p r) (a .0), ltb-false n (sizeWith l p r) (b .0)),
+    λ w. rw (room-tests l n (sizeWith l p r), le-ltb (l .limit) (sizeWith l p r) (w .0), le-ltb n (sizeWith l p r) (w .1)),
   )
 
-  pub call-fitting : fits l n p ≡ true → callNumber l n p r ≡ refused l (p .units) r (room l n sizeWith)
+  pub call-fitting : fits l n p ≡ true → callNumber l n p r ≡ refused l (p .units) r (room l n (sizeWith l p r))
   call-fitting fit = rw (call-tests l n p r, fit)
 
   pub call-zero : fits l n p ≡ true →
-      (callNumber l n p r ≡ 0) ↔ ((refused l (p .units) r 0 ≡ 0) × (sizeWith ≤ l .limit) × (sizeWith ≤ n))
+      (callNumber l n p r ≡ 0) ↔ ((refused l (p .units) r 0 ≡ 0) × (sizeWith l p r ≤ l .limit) × (sizeWith l p r ≤ n))
   call-zero fit = (
     λ e.
-        let w = refused-is l (p .units) r (room l n sizeWith) (sym (call-fitting fit) ∙ e) in
+        let w = refused-is l (p .units) r (room l n (sizeWith l p r)) (sym (call-fitting fit) ∙ e) in
         let v = room-zero .0 (w .1) in
         (w .2, v .0, v .1),
-    λ w. call-fitting fit ∙ refused-then l (p .units) r (room l n sizeWith) (w .0) ∙ room-zero .1 (w .1, w .2),
+    λ w. call-fitting fit ∙ refused-then l (p .units) r (room l n (sizeWith l p r)) (w .0) ∙ room-zero .1 (w .1, w .2),
   )
 
 -- A call that is done, and one that is refused.

@@ -1,8 +1,11 @@
 -- A tail that was lent, when it is back with new bytes at its front.
 use mathlib.Core.Path.{_≡_, refl, sym, _∙_}
+use mathlib.Core.Bool.{Bool, true, false}
 use mathlib.Core.List.{List, [], _∷_, _++_, append-assoc, append-nil}
 use Prim.Native.Nat.{ℕ, suc, _+_, _-_, _≤_}
 use native.Mathlib.Omega.{arith}
+use borrow.Author.Tests.{leb-true, leb-false}
+use lib.Dec.{leb}
 use lib.ListN.{length, take, drop, getD, set, length-append, length-drop, drop-of-length-le}
 use lib.Seq.{take-at, drop-at, drop-cons, drop-drop, append-snoc, set-at}
 use borrow.Rule.Slice.PartMut.{putMid}
@@ -13,7 +16,7 @@ use Rattle.cdf_grammar.proofs.Numbers.{length-bytes}
 use Rattle.cdf_grammar.proofs.Prefixes.{length-prefix}
 use Rattle.cdf_grammar.proofs.Built.{unit-is, length-unit}
 use Rattle.cdf_builder_write.specs.Patch.{patch}
-use Rattle.cdf_builder_write.proofs.Patching.{patch-some}
+use Rattle.cdf_builder_write.proofs.Patching.{patch-some, patch-none}
 
 module _ (at n : ℕ) (new s tail : List ℕ) (size : length new ≡ n)
     (is : tail ≡ new ++ drop n (take (length s - at) (drop at s))) where
@@ -23,8 +26,17 @@ module _ (at n : ℕ) (new s tail : List ℕ) (size : length new ≡ n)
       let none : drop (length s - at) (drop at s) ≡ [] = drop-of-length-le (drop at s) few in
       rw (none, append-nil, is, rest, drop-drop)
 
-  pub patched : at + n ≤ length s → putMid at (length s - at) s tail ≡ patch at new s
+  patched : at + n ≤ length s → putMid at (length s - at) s tail ≡ patch at new s
   patched room = lent ∙ sym (rw size at (patch-some at new s (rw size room)))
+
+-- Whether there is room is asked first: where there is, bytes are put to the front of the lent tail, and else all stays.
+module _ (at n : ℕ) (new s : List ℕ) (size : length new ≡ n) (may : Bool) (asked : may ≡ leb (at + n) (length s)) where
+  pub wrote : may ≡ true → (tail : List ℕ) → tail ≡ new ++ drop n (take (length s - at) (drop at s)) →
+      putMid at (length s - at) s tail ≡ patch at new s
+  wrote e tail is = patched at n new s tail size is (leb-true (at + n) (length s) (sym asked ∙ e))
+
+  pub stayed : may ≡ false → s ≡ patch at new s
+  stayed e = sym (patch-none at new s (rw size (leb-false (at + n) (length s) (sym asked ∙ e))))
 
 -- A prefix is stored around its length.
 module _ (l : Layout) (len action id : ℕ) where

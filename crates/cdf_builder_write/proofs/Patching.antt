@@ -1,6 +1,6 @@
 -- What a patch leaves, in the parts of the list that it is made to.
 use mathlib.Core.Path.{_≡_, refl}
-use mathlib.Core.List.{List, [], _∷_, _++_, append-assoc}
+use mathlib.Core.List.{List, _++_, append-assoc}
 use Prim.Native.Nat.{ℕ, _+_, _-_, _≤_, _<_}
 use native.Mathlib.Omega.{arith}
 use borrow.Author.Tests.{leb-true, leb-false, le-leb, lt-leb}
@@ -8,9 +8,6 @@ use lib.Dec.{leb}
 use lib.ListN.{length, take, drop, length-append, length-take, length-drop}
 use lib.Seq.{take-append-seam, take-append-le, drop-append-le, take-append-add, drop-append-add, drop-at}
 use Rattle.cdf_unit_table.proofs.Bools.{of-cond}
-use Rattle.cdf_unit_table.proofs.Parts.{rest}
-use Rattle.cdf_grammar.specs.Encoding.{Bytes}
-use Rattle.cdf_grammar.proofs.Parts.{part-bytes}
 use Rattle.cdf_builder_write.specs.Patch.{patch}
 
 -- Where there is room: what stands before, the new bytes, and what stands behind them.
@@ -61,14 +58,3 @@ pub patch-front : (at : ℕ) (new a b : List ℕ) → at + length new ≤ length
 patch-front at new a b h =
     let all = length-append a b in
     rw (patch-some at new a, patch-some at new (a ++ b) (omega arith), take-append-le at a b (omega arith), drop-append-le) (simp append-assoc)
-
-append-bytes : (a b : List ℕ) → Bytes a → Bytes b → Bytes (a ++ b)
-append-bytes [] b p q = q
-append-bytes (x ∷ a) b p q = (p .0, append-bytes a b (p .1) q)
-
-pub patch-bytes : (at : ℕ) (new s : List ℕ) → Bytes s → Bytes new → Bytes (patch at new s)
-patch-bytes at new s p q =
-    let k = at + length new in
-    let rear : Bytes (drop k s) = rw rest at (part-bytes k (length s - k) s p) in
-    let all = append-bytes (take at s) (new ++ drop k s) (part-bytes 0 at s p) (append-bytes new (drop k s) q rear) in
-    of-patch Bytes at new s (λ h. all) (λ h. p)

@@ -13,7 +13,7 @@ use Rattle.cdf_unit_table.specs.States.{opens, nothing, complete}
 use Rattle.cdf_unit_judge.specs.Judge.{judgeOf}
 use Rattle.cdf_unit_list.specs.Units.{End, unfinished, ended, fault, Listing, listBy}
 use Rattle.cdf_unit_list.specs.Stack.{incomplete, close, Step, done, refused, found, entered, stepIn, step}
-use Rattle.cdf_unit_list.specs.Stack.{stepsFrom, steps}
+use Rattle.cdf_unit_list.specs.Steps.{stepsFrom, steps}
 use Rattle.cdf_unit_list.specs.Check.{answerOf, answer}
 use Rattle.cdf_unit_list.specs.declared.Unit.{Unit}
 use Rattle.cdf_unit_list.specs.declared.Open.{Open}
@@ -22,7 +22,7 @@ use Rattle.cdf_unit_judge.specs.declared.Judged.the-variants.{Fault, Found}
 use Rattle.cdf_unit_judge.proofs.Placed.{placed}
 use Rattle.cdf_unit_list.proofs.Agreement.{follows}
 use Rattle.cdf_unit_list.proofs.Fuel.{finishes}
-use Rattle.cdf_check.specs.Answers.{checkedBy, checkedOf, paperOf}
+use Rattle.cdf_check.specs.Answers.{checkedBy, checkedOf, asAnswer}
 use Rattle.cdf_check.specs.Walk.{Nested, finish, andThen, turn, walk, insideOf, front}
 use Rattle.cdf_unit_table.specs.Heights.{heightIn}
 use Rattle.cdf_check.specs.declared.Checked.{Checked}
@@ -195,17 +195,17 @@ same l root state s =
       λ m c. c,
     )))
 
--- The paper's number and value of a case.
-pub paper : (x : Listing) → paperOf (checkedOf x) ≡ answer x
-unfolding paperOf checkedOf answer
-paper x = go (x .end)
+-- The number and value of a case.
+pub case-answer : (x : Listing) → asAnswer (checkedOf x) ≡ answer x
+unfolding asAnswer checkedOf answer
+case-answer x = go (x .end)
   where
-    go : (e : End) → paperOf (checkedBy (length (x .units)) e) ≡ answerOf (length (x .units)) e
+    go : (e : End) → asAnswer (checkedBy (length (x .units)) e) ≡ answerOf (length (x .units)) e
     go unfinished = refl
     go ended = refl
     go (fault k at) = refl
 
 -- The same in document 01's numbers.
-pub paper-same : (l : Layout) (root : Bool) (state : ℕ) (s : List ℕ) →
-    paperOf (front l s (judgeOf l root state s)) ≡ answer (listBy l s (judgeOf l root state s))
-paper-same l root state s = rw (same l root state s) (paper (listBy l s (judgeOf l root state s)))
+pub answer-same : (l : Layout) (root : Bool) (state : ℕ) (s : List ℕ) →
+    asAnswer (front l s (judgeOf l root state s)) ≡ answer (listBy l s (judgeOf l root state s))
+answer-same l root state s = rw (same l root state s) (case-answer (listBy l s (judgeOf l root state s)))

@@ -1,4 +1,5 @@
--- The walk over the places of a unit, turn by turn, as the loop of `check_inside` takes them, and the unit at the front.
+-- The walk over the places of a unit, turn by turn, as the loop of `check_inside` takes them, a unit as `check_unit` takes it, and
+-- the unit at the front.
 use mathlib.Core.Path.{_≡_, refl, sym, _∙_}
 use mathlib.Core.Bool.{Bool, false, true, cond}
 use mathlib.Core.List.{List}
@@ -7,18 +8,26 @@ use native.Mathlib.Omega.{arith}
 use native.Mathlib.Numerals.{sub-one}
 use borrow.Author.Tests.{lt-ltb, le-ltb}
 use lib.ListN.{length, take, drop, length-drop}
-use Rattle.cdf_unit_prefix.specs.Layout.{Layout}
-use Rattle.cdf_unit_table.specs.States.{opens, nothing, complete}
-use Rattle.cdf_unit_judge.specs.Judge.{judgeOf}
+use Rattle.cdf_unit_prefix.specs.Layout.{Layout, prefixOf}
+use Rattle.cdf_unit_prefix.specs.Rules.{headOf}
+use Rattle.cdf_unit_prefix.specs.declared.Header.{Header}
+use Rattle.cdf_unit_prefix.specs.declared.Header.the-variants.{Stop, Prefix}
+use Rattle.cdf_unit_table.specs.States.{admit, admits, opens, nothing, complete}
+use Rattle.cdf_unit_judge.specs.Judge.{bodyOf, foundBy, judgeOf}
+use Rattle.cdf_unit_judge.specs.declared.Body.{Body}
+use Rattle.cdf_unit_judge.specs.declared.Body.the-variants.{Action, Data, Whole}
 use Rattle.cdf_unit_judge.specs.declared.Judged.{Judged}
 use Rattle.cdf_unit_judge.specs.declared.Judged.the-variants.{Fault, Found}
-use Rattle.cdf_unit_judge.proofs.Placed.{placed}
-use Rattle.cdf_check.specs.Walk.{Nested, finish, andThen, turn, walk, insideOf, front}
+use Rattle.cdf_unit_judge.proofs.Stages as stages
+use Rattle.cdf_unit_judge.proofs.Stages.{bounds}
+use Rattle.cdf_check.specs.Walk.{Nested, finish, andThen, turn, walk, insideOf, unitBy, checkedUnit, front}
 use Rattle.cdf_unit_table.specs.Heights.{height, heightIn}
 use Rattle.cdf_check.specs.declared.Checked.{Checked}
 use Rattle.cdf_check.specs.declared.Checked.the-variants.{Accepted, Refused}
-use Rattle.cdf_unit_table.proofs.Heights.{falls, opens-lower}
-use Rattle.cdf_unit_table.proofs.Rows.{opens-by, leaf-by}
+use Rattle.cdf_unit_table.proofs.Heights.{falls}
+use Rattle.cdf_unit_table.proofs.Parts.{minus-plus, drop-take}
+use Rattle.cdf_unit_table.proofs.Rows.{admits-nested, opens-by, leaf-by}
+use Rattle.cdf_unit_table.proofs.Bools.{clash, clash}
 
 -- What the loop keeps: the walk from here, with fuel enough for what is left, answers as the whole check.
 pub record Going (l : Layout) (levels : ℕ) (s : List ℕ) (state base body count at now n : ℕ) : Type 0 where
@@ -49,90 +58,132 @@ module _ (l : Layout) (nested : Nested) (s : List ℕ) (base now at n : ℕ) whe
   ended zero h = refl
   ended (suc fuel) h = rw (le-ltb at (length s) h)
 
+-- A unit that the loop judges by its prefix and admission, and `check_unit` by its action and own data.
+by-body : (l : Layout) (nested : Nested) (more : ℕ → ℕ → ℕ → Checked) (pos n : ℕ) (s : List ℕ) (id action len next : ℕ) (c : Body) →
+    turn nested more pos n s (foundBy l id action len next c) ≡ andThen (more next len) (unitBy l nested (take len s) id pos n c)
+unfolding turn foundBy unitBy andThen
+by-body l nested more pos n s id action len next Action = let start : pos + 0 ≡ pos = omega arith in rw start
+by-body l nested more pos n s id action len next (Data k) =
+    let place : pos + (prefixOf l + k) ≡ pos + prefixOf l + k = omega arith in
+    rw place
+by-body l nested more pos n s id action len next (Whole k) = refl
+
 -- Where a unit lies that stands at a place, and how it heights.
-pub record Lies (levels : ℕ) (s : List ℕ) (at child own len next : ℕ) : Type 0 where
-  pub some : 0 < own
-  pub inner : own ≤ len
+pub record Lies (l : Layout) (levels : ℕ) (s : List ℕ) (at child len next : ℕ) : Type 0 where
+  pub room : prefixOf l ≤ len
   pub high : at + len ≤ length s
   pub deeper : height child < levels - 1
   pub after : heightIn next < levels
 
+-- What the contracts promise of an answer: what it is, and how many units there can be.
+abbrev Answers : Checked → ℕ → Checked → Type 0
+Answers x most r = (r ≡ x) × ((m : ℕ) → r ≡ Accepted m → m ≤ most)
+
+refusal : {x : Checked} {k o : ℕ} (most : ℕ) → x ≡ Refused k o → Answers x most (Refused k o)
+refusal most e = (sym e, λ m q. clash cc)
+
 module _ {l : Layout} {levels : ℕ} {s : List ℕ} {state base body count at now n : ℕ}
     (g : Going l levels s state base body count at now n) where
-  -- What the contract promises of an answer.
-  abbrev Answers : Checked → Type 0
-  Answers r = (r ≡ insideOf l levels s state base body count) × ((m : ℕ) → r ≡ Accepted m → m ≤ base + length s)
+  abbrev Inside : Checked → Type 0
+  Inside r = Answers (insideOf l levels s state base body count) (base + length s) r
 
-  refused : {k o : ℕ} → insideOf l levels s state base body count ≡ Refused k o → Answers (Refused k o)
-  refused e = (sym e, λ m q. let z : _≡_ {A = ℕ} 0 1 = cc in absurd (omega arith))
-
-  pub finished : length s ≤ at → (b : Bool) → complete now ≡ b → Answers (cond b (Accepted n) (Refused 10 base))
+  pub finished : length s ≤ at → (b : Bool) → complete now ≡ b → Inside (cond b (Accepted n) (Refused 10 base))
   finished h b e = go b (rw e at (g .same ∙ ended l (insideOf l (levels - 1)) s base now at n (g .fuel) h))
     where
       go : (b : Bool) → insideOf l levels s state base body count ≡ cond b (Accepted n) (Refused 10 base) →
-          Answers (cond b (Accepted n) (Refused 10 base))
+          Inside (cond b (Accepted n) (Refused 10 base))
       go true e = (sym e, λ m q. let same : n ≡ m = cc in omega (arith, g .few, g .within))
-      go false e = refused e
+      go false e = refusal (base + length s) e
 
-  turns : at < length s → {j : Judged} → judgeOf l false now (drop at s) ≡ j →
-      insideOf l levels s state base body count
-      ≡ turn (insideOf l (levels - 1)) (λ next len m. walk l (insideOf l (levels - 1)) (g .fuel - 1) s base next (at + len) m)
-      (base + at) n (drop at s) j
-  turns h e = g .same ∙ turned l (insideOf l (levels - 1)) s base now at n (g .fuel) h (g .enough) e
+  -- x is what the prefix says that stands there.
+  module _ (h : at < length s) (x : Header) (is : x ≡ headOf l false (drop at s)) where
+    turns : {j : Judged} → j ≡ judgeOf l false now (drop at s) →
+        insideOf l levels s state base body count
+        ≡ turn (insideOf l (levels - 1)) (λ next len m. walk l (insideOf l (levels - 1)) (g .fuel - 1) s base next (at + len) m)
+        (base + at) n (drop at s) j
+    turns e = g .same ∙ turned l (insideOf l (levels - 1)) s base now at n (g .fuel) h (g .enough) (sym e)
 
-  pub stopped : at < length s → {k o : ℕ} → judgeOf l false now (drop at s) ≡ Fault k o → Answers (Refused k (base + at + o))
-  unfolding turn
-  stopped h e = refused (turns h e)
-
-  module _ (h : at < length s) {child action own len next : ℕ}
-      (e : judgeOf l false now (drop at s) ≡ Found child action own len next) where
-    pub lies : Lies levels s at child own len next
-    lies =
-        let z = placed l false now (drop at s) e in
-        let w = falls now child next (z .may) (z .some) in
-        let d = length-drop at s in
-        let r = g .low in
-        record { some = omega arith; inner = z .inside; high = omega arith; deeper = omega arith; after = omega arith }
-
-    answers : insideOf l levels s state base body count
-        ≡ andThen (λ m. walk l (insideOf l (levels - 1)) (g .fuel - 1) s base next (at + len) m)
-        (cond (opens child) (insideOf l (levels - 1) (take len (drop at s)) (nothing child) (base + at) own (n + 1)) (Accepted (n + 1)))
+    here : {k : ℕ} → Fault k 0 ≡ judgeOf l false now (drop at s) → Inside (Refused k (base + at))
     unfolding turn
-    answers = turns h e
+    here e = let start : base + at + 0 ≡ base + at = omega arith in refusal (base + length s) (rw start at (turns e))
 
-    on : {m : ℕ} →
-        Accepted m
-        ≡ cond (opens child) (insideOf l (levels - 1) (take len (drop at s)) (nothing child) (base + at) own (n + 1)) (Accepted (n + 1)) →
-        m ≤ base + (at + len) → Going l levels s state base body count (at + len) next m
-    unfolding andThen
-    on {m} q few =
-        let z = lies in
-        record {
-          within = z .high;
-          few = few;
-          low = z .after;
-          fuel = g .fuel - 1;
-          enough = omega (arith, g .enough);
-          same = answers ∙ rw (← q);
-        }
+    pub stopped : {k : ℕ} → x ≡ Stop k → Inside (Refused k (base + at))
+    stopped e = here (stages.stopped l false (drop at s) x is now e)
 
-    -- `fresh` is the unit's first state, if it admits others.
-    module _ (fresh : ℕ) (is : fresh ≡ nothing child) where
-      pub deeper : (fresh ≡ 0 → ⊥) → heightIn fresh < levels - 1
-      deeper some = rw is (omega (arith, lies .deeper, opens-lower child (opens-by child fresh is some) .same))
+    -- `next` is the enclosing unit's state once it has had this one.
+    module _ {id action len : ℕ} (e : x ≡ Prefix id action len) (next : ℕ) (may : next ≡ admit now id) where
+      admits-it : next ≡ admits false now id
+      admits-it = may ∙ sym (admits-nested now id)
 
-      pub stopped-inside : (fresh ≡ 0 → ⊥) → {k o : ℕ} →
-          Refused k o ≡ insideOf l (levels - 1) (take len (drop at s)) fresh (base + at) own (n + 1) → Answers (Refused k o)
-      unfolding andThen
-      stopped-inside some q = refused (answers ∙ rw (opens-by child fresh is some, ← is, ← q))
+      pub not-here : next ≡ 0 → Inside (Refused 7 (base + at))
+      not-here none = here (stages.refused l false (drop at s) x is now e next admits-it none)
 
-      pub on-inside : (fresh ≡ 0 → ⊥) → {m : ℕ} →
-          Accepted m ≡ insideOf l (levels - 1) (take len (drop at s)) fresh (base + at) own (n + 1) →
-          m ≤ base + (at + len) → Going l levels s state base body count (at + len) next m
-      on-inside some q few = on (rw (opens-by child fresh is some, ← is) q) few
+      module _ (some : next ≡ 0 → ⊥) where
+        pub lies : Lies l levels s at id len next
+        lies =
+            let z = bounds l false (drop at s) x is e in
+            let w = falls now id next (sym admits-it) some in
+            let d = length-drop at s in
+            let r = g .low in
+            record { room = z .0; high = omega arith; deeper = omega arith; after = omega arith }
 
-      pub on-leaf : fresh ≡ 0 → Going l levels s state base body count (at + len) next (n + 1)
-      on-leaf none = on (rw (leaf-by child fresh is none)) (omega (arith, g .few, lies .some, lies .inner))
+        -- What the check of the unit's own part of s answers.
+        abbrev nested : Checked
+        nested = checkedUnit l (levels - 1) (take (at + len - at) (drop at s)) id action (base + at) n
+
+        answers : insideOf l levels s state base body count
+            ≡ andThen (λ m. walk l (insideOf l (levels - 1)) (g .fuel - 1) s base next (at + len) m) nested
+        unfolding checkedUnit
+        answers =
+            turns (stages.admitted l false (drop at s) x is now e next admits-it some (prefixOf l) refl)
+            ∙ rw (minus-plus len at, drop-take (prefixOf l) len (drop at s))
+            (by-body l (insideOf l (levels - 1)) _ (base + at) n (drop at s) id action len next _)
+
+        pub stopped-inside : {r : Checked} → r ≡ nested → {k o : ℕ} → r ≡ Refused k o → Inside (Refused k o)
+        unfolding andThen
+        stopped-inside q f = refusal (base + length s) (answers ∙ rw (← q, f))
+
+        pub on : {r : Checked} → r ≡ nested → {m : ℕ} → r ≡ Accepted m → m ≤ base + (at + len) →
+            Going l levels s state base body count (at + len) next m
+        unfolding andThen
+        on q {m} f few =
+            let z = lies in
+            record {
+              within = z .high;
+              few = few;
+              low = z .after;
+              fuel = g .fuel - 1;
+              enough = omega (arith, g .enough);
+              same = answers ∙ rw (← q, f);
+            }
+
+-- The unit s, as `check_unit` takes it: its prefix has p bytes, and c is what its action and own data are found to be.
+module _ (l : Layout) (levels : ℕ) (s : List ℕ) (id action base n p : ℕ) (prefixed : p ≡ prefixOf l) (c : Body)
+    (is : c ≡ bodyOf id action (drop p s)) where
+  abbrev Alone : Checked → Type 0
+  Alone r = Answers (checkedUnit l levels s id action base n) (base + length s) r
+
+  by : {d : Body} → c ≡ d → checkedUnit l levels s id action base n ≡ unitBy l (insideOf l levels) s id base n d
+  unfolding checkedUnit
+  by e = rw (← prefixed, ← is, e)
+
+  pub no-action : c ≡ Action → Alone (Refused 8 base)
+  unfolding unitBy
+  no-action e = refusal (base + length s) (by e)
+
+  pub no-data : {k : ℕ} → c ≡ Data k → Alone (Refused 9 (base + p + k))
+  unfolding unitBy
+  no-data e = rw prefixed (refusal (base + length s) (by e))
+
+  -- `first` is the unit's first state, if it admits others.
+  module _ {k : ℕ} (e : c ≡ Whole k) (first : ℕ) (begins : first ≡ nothing id) where
+    pub leaf : n < base + length s → first ≡ 0 → Alone (Accepted (n + 1))
+    unfolding unitBy
+    leaf few none = (sym (by e ∙ rw (leaf-by id first begins none)), λ m q. let same : n + 1 ≡ m = cc in omega arith)
+
+    pub holds : (first ≡ 0 → ⊥) → {r : Checked} → Answers (insideOf l levels s first base (p + k) (n + 1)) (base + length s) r → Alone r
+    unfolding unitBy
+    holds some a = (a .0 ∙ sym (by e ∙ rw (opens-by id first begins some, ← begins, ← prefixed)), a .1)
 
 -- The unit at the front, as `check_front` takes it.
 module _ (l : Layout) (s : List ℕ) where

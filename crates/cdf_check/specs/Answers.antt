@@ -18,6 +18,6 @@ unfolding checkedBy
 checkedOf r = checkedBy (length (r .units)) (r .end)
 
 -- The number and the value that 01 gives a case: 0 with the count, or the fault's number and offset.
-unfoldable pub paperOf : Checked → Answer
-paperOf (Accepted count) = record { number = 0; value = count }
-paperOf (Refused n at) = record { number = n; value = at }
+unfoldable pub asAnswer : Checked → Answer
+asAnswer (Accepted count) = record { number = 0; value = count }
+asAnswer (Refused n at) = record { number = n; value = at }

@@ -1,13 +1,16 @@
--- The recursive check as a function. It mirrors the code of `check_inside` and `check_front` for their private contracts: no
--- claim and no contract that is open to callers cites it, and nobody has to believe it.
+-- The recursive check as a function, for the private contracts of `check_unit`, `check_inside` and `check_front`: no claim and no
+-- contract that is open to callers cites it, and nobody has to believe it. A unit is judged here in one piece; in the code the
+-- loop asks its prefix and admission, and `check_unit` the rest (proofs/Walked).
 use Prim.Native.Nat.{ℕ, zero, suc, _+_}
 use mathlib.Core.Bool.{false, cond}
 use mathlib.Core.List.{List}
 use lib.ListN.{length, take, drop}
 use lib.Dec.{ltb}
-use Rattle.cdf_unit_prefix.specs.Layout.{Layout}
+use Rattle.cdf_unit_prefix.specs.Layout.{Layout, prefixOf}
 use Rattle.cdf_unit_table.specs.States.{opens, nothing, complete}
-use Rattle.cdf_unit_judge.specs.Judge.{judgeOf}
+use Rattle.cdf_unit_judge.specs.Judge.{bodyOf, judgeOf}
+use Rattle.cdf_unit_judge.specs.declared.Body.{Body}
+use Rattle.cdf_unit_judge.specs.declared.Body.the-variants.{Action, Data, Whole}
 use Rattle.cdf_unit_judge.specs.declared.Judged.{Judged}
 use Rattle.cdf_unit_judge.specs.declared.Judged.the-variants.{Fault, Found}
 use Rattle.cdf_check.specs.declared.Checked.{Checked}
@@ -48,6 +51,17 @@ walk l nested (suc fuel) s base state at n =
 unfoldable pub insideOf : Layout → ℕ → Nested
 insideOf l zero s state base body n = Refused 99 base
 insideOf l (suc levels) s state base body n = walk l (insideOf l levels) (length s) s base state body n
+
+-- The unit s, at a position and with n units before it, whose action and own data were found so.
+unfoldable pub unitBy : Layout → Nested → List ℕ → ℕ → ℕ → ℕ → Body → Checked
+unitBy l nested s id pos n Action = Refused 8 pos
+unitBy l nested s id pos n (Data k) = Refused 9 (pos + prefixOf l + k)
+unitBy l nested s id pos n (Whole k) =
+    cond (opens id) (nested s (nothing id) pos (prefixOf l + k) (n + 1)) (Accepted (n + 1))
+
+unfoldable pub checkedUnit : Layout → ℕ → List ℕ → ℕ → ℕ → ℕ → ℕ → Checked
+unfolding unitBy bodyOf
+checkedUnit l levels s id action pos n = unitBy l (insideOf l levels) s id pos n (bodyOf id action (drop (prefixOf l) s))
 
 -- The unit at the front of s, which was judged so.
 unfoldable pub front : Layout → List ℕ → Judged → Checked

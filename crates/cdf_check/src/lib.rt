@@ -4,22 +4,28 @@ ghost use mathlib.Core.Bool.{Bool};
 ghost use mathlib.Core.Logic.{_↔_};
 ghost use Prim.Native.Nat.{ℕ, _+_, _≤_, _<_};
 ghost use lib.ListN.{length};
-ghost use Rattle.cdf_unit_table.specs.Heights.{heightIn};
-ghost use Rattle.cdf_unit_prefix.specs.Layout.{layoutOf};
+ghost use Rattle.cdf_unit_table.specs.Heights.{height, heightIn};
+ghost use Rattle.cdf_unit_prefix.specs.Layout.{layoutOf, prefixOf};
 ghost use Rattle.cdf_unit_prefix.specs.declared.Edition.the-variants.{First};
 ghost use Rattle.cdf_unit_judge.specs.Judge.{judgeOf};
 ghost use Rattle.cdf_unit_list.specs.Units.{listing, listingIn};
 ghost use Rattle.cdf_unit_list.specs.Check.{checkOf, checkIn};
 ghost use Rattle.cdf_grammar.specs.Trees.{Forest, units};
 ghost use Rattle.cdf_grammar.specs.Encoding.{Stream};
-ghost use Rattle.cdf_check.specs.Answers.{checkedOf, paperOf};
-ghost use Rattle.cdf_check.specs.Walk.{insideOf, front};
+ghost use Rattle.cdf_check.specs.Answers.{checkedOf, asAnswer};
+ghost use Rattle.cdf_check.specs.Walk.{checkedUnit, insideOf, front};
+use cdf_unit_judge::Body;
 use cdf_unit_judge::Judged;
 use cdf_unit_judge::judge;
+use cdf_unit_judge::judge_body;
 use cdf_unit_judge::judge_root;
 use cdf_unit_prefix::Edition;
+use cdf_unit_prefix::Header;
+use cdf_unit_prefix::head;
+use cdf_unit_prefix::prefix;
 use cdf_unit_table::first_state;
 use cdf_unit_table::is_complete;
+use cdf_unit_table::state_after;
 
 // What the check found: the number of units of a right stream, or the first fault's number and offset.
 pub enum Checked {
@@ -27,8 +33,47 @@ pub enum Checked {
     Refused { number: usize, offset: usize },
 }
 
-// Checks what the unit s holds, from body on; in `first` it has had nothing. count units come before that, and base bytes
-// before s.
+// Checks the unit s of this id and action, which is admitted where it stands: its action and own data, then what it holds. count
+// units come before it, and `place` bytes.
+fn check_unit(
+    edition: Edition,
+    levels: usize,
+    s: &[u8],
+    id: usize,
+    action: usize,
+    place: usize,
+    count: usize,
+) -> Checked
+    requires { ⌜ (height id < levels) × (place + length (now s) < 9223372036854775808) × (prefixOf (layoutOf edition) ≤ length (now s)) × (count ≤ place) ⌝ }
+    ensures is { λ r. ⌜ r ≡ checkedUnit (layoutOf edition) levels (now (s .entry)) id action place count ⌝ }
+    ensures few { λ r. ⌜ ((n : ℕ) → r ≡ Checked.Accepted n → n ≤ place + length (now (s .entry))) ⌝ }
+{
+    let p = prefix(edition);
+    match judge_body(id, action, &s[p..]) {
+        Body::Action => Checked::Refused {
+            number: 8,
+            offset: place,
+        },
+        Body::Data(k) => {
+            let byte = place + p + k;
+            Checked::Refused {
+                number: 9,
+                offset: byte,
+            }
+        }
+        Body::Whole(k) => {
+            let n = count + 1;
+            let first = first_state(id);
+            if first == 0 {
+                return Checked::Accepted(n);
+            }
+            check_inside(edition, levels, s, first, place, p + k, n)
+        }
+    }
+}
+
+// Checks each unit that the unit s holds, from body on; in `first` it has had nothing. count units come before that, and base
+// bytes before s. A nested unit is handed on as the part of s that begins where it begins and ends where it ends.
 fn check_inside(
     edition: Edition,
     levels: usize,
@@ -46,44 +91,31 @@ fn check_inside(
     let mut state = first;
     let mut n = count;
     while at < s.len() {
-        match judge(edition, state, &s[at..]) {
-            Judged::Fault { number, offset } => {
-                let place = base + at + offset;
+        let place = base + at;
+        match head(edition, false, &s[at..]) {
+            Header::Stop(number) => {
                 return Checked::Refused {
                     number,
                     offset: place,
                 };
             }
-            Judged::Found {
-                id: child,
-                action: _,
-                own,
-                length,
-                state: next,
-            } => {
-                let e = at + length;
-                let fresh = first_state(child);
-                if fresh != 0 {
-                    match check_inside(
-                        edition,
-                        levels - 1,
-                        &s[at..e],
-                        fresh,
-                        base + at,
-                        own,
-                        n + 1,
-                    ) {
-                        Checked::Refused { number, offset } => {
-                            return Checked::Refused { number, offset };
-                        }
-                        Checked::Accepted(m) => {
-                            n = m;
-                        }
-                    }
-                } else {
-                    n = n + 1;
+            Header::Prefix { id, action, length } => {
+                state = state_after(state, id);
+                if state == 0 {
+                    return Checked::Refused {
+                        number: 7,
+                        offset: place,
+                    };
                 }
-                state = next;
+                let e = at + length;
+                match check_unit(edition, levels - 1, &s[at..e], id, action, place, n) {
+                    Checked::Refused { number, offset } => {
+                        return Checked::Refused { number, offset };
+                    }
+                    Checked::Accepted(m) => {
+                        n = m;
+                    }
+                }
                 at = e;
             }
         }
@@ -123,7 +155,7 @@ fn check_front(edition: Edition, judged: Judged, s: &[u8]) -> Checked
 
 // Checks a whole stream of this edition.
 pub fn check_as(edition: Edition, s: &[u8]) -> Checked
-    ensures paper { λ r. ⌜ paperOf r ≡ checkOf (layoutOf edition) (now (s .entry)) ⌝ }
+    ensures answer { λ r. ⌜ asAnswer r ≡ checkOf (layoutOf edition) (now (s .entry)) ⌝ }
     ensures is { λ r. ⌜ r ≡ checkedOf (listing (layoutOf edition) (now (s .entry))) ⌝ }
     ensures exact { λ r. ⌜ ((n : ℕ) → (r ≡ Checked.Accepted n) ↔ ((t : Forest) × Stream (layoutOf edition) (now (s .entry)) t × (units t ≡ n))) ⌝ }
 {
@@ -132,7 +164,7 @@ pub fn check_as(edition: Edition, s: &[u8]) -> Checked
 
 // Checks a whole stream.
 pub fn check(s: &[u8]) -> Checked
-    ensures paper { λ r. ⌜ paperOf r ≡ checkOf (layoutOf First) (now (s .entry)) ⌝ }
+    ensures answer { λ r. ⌜ asAnswer r ≡ checkOf (layoutOf First) (now (s .entry)) ⌝ }
     ensures is { λ r. ⌜ r ≡ checkedOf (listing (layoutOf First) (now (s .entry))) ⌝ }
     ensures exact { λ r. ⌜ ((n : ℕ) → (r ≡ Checked.Accepted n) ↔ ((t : Forest) × Stream (layoutOf First) (now (s .entry)) t × (units t ≡ n))) ⌝ }
 {
@@ -141,7 +173,7 @@ pub fn check(s: &[u8]) -> Checked
 
 // Checks the unit at the front of s, which is what a unit in this state has left.
 pub fn check_nested(edition: Edition, state: usize, s: &[u8]) -> Checked
-    ensures paper { λ r. ⌜ paperOf r ≡ checkIn (layoutOf edition) state (now (s .entry)) ⌝ }
+    ensures answer { λ r. ⌜ asAnswer r ≡ checkIn (layoutOf edition) state (now (s .entry)) ⌝ }
     ensures is { λ r. ⌜ r ≡ checkedOf (listingIn (layoutOf edition) state (now (s .entry))) ⌝ }
 {
     check_front(edition, judge(edition, state, s), s)

@@ -3,14 +3,15 @@ ghost use Prim.Native.Nat.{_≤_};
 ghost use mathlib.Core.Path.{_≡_};
 ghost use Rattle.cdf_unit_prefix.specs.Layout.{layoutOf};
 ghost use Rattle.cdf_unit_prefix.specs.declared.Edition.the-variants.{First};
-ghost use Rattle.cdf_unit_table.specs.States.{unitOf};
 ghost use Rattle.cdf_reader_spec.specs.Slots.{openUnits};
 ghost use Rattle.cdf_explain_spec.specs.Why.{whyOf};
 ghost use Rattle.cdf_explain.specs.Numbers.{explainedBy};
 ghost use Rattle.cdf_explain.specs.Parts.{level, maysAt, choicesOf, toldAt};
 use cdf_reader::Place;
 use cdf_reader::first;
+use cdf_reader_close::no_open;
 use cdf_unit_list::Open;
+use cdf_unit_states::unit_of;
 use cdf_unit_table::IDS_END;
 use cdf_unit_table::STREAM;
 use cdf_unit_table::is_root_kind;
@@ -35,51 +36,6 @@ struct Choices {
     ids: [usize; 14],
 }
 
-// The unit that a state is of, by the state.
-const UNITS: [usize; 31] = [
-    0,
-    1,
-    1,
-    1,
-    1,
-    4,
-    4,
-    4,
-    13,
-    13,
-    13,
-    2,
-    2,
-    2,
-    5,
-    5,
-    5,
-    5,
-    5,
-    9,
-    9,
-    9,
-    9,
-    10,
-    10,
-    10,
-    10,
-    11,
-    11,
-    11,
-    11,
-];
-
-// The id of the unit that a state is of; 0 for a number that is no state.
-fn unit_of(state: usize) -> usize
-    ensures { λ r. ⌜ r ≡ unitOf state ⌝ }
-{
-    if state < 31 {
-        return UNITS[state];
-    }
-    0
-}
-
 // The unit at a level of so many open ones, from 1, the root: the innermost, or one around it; zeros where there is none.
 fn at_level(k: usize, count: usize, top: Open, outer: Open) -> Open
     ensures { λ r. ⌜ r ≡ level k count top outer ⌝ }
@@ -90,11 +46,7 @@ fn at_level(k: usize, count: usize, top: Open, outer: Open) -> Open
     if k < count {
         return outer;
     }
-    Open {
-        state: 0,
-        start: 0,
-        end: 0,
-    }
+    no_open()
 }
 
 // Whether an id may stand in the innermost of so many open units, which is in this state; where none is open, as a root.

@@ -11,7 +11,7 @@ use lib.ListN.{take, drop}
 use Rattle.cdf_unit_table.specs.Ids.{member, known, idsEnd}
 use Rattle.cdf_unit_table.specs.States.{admit, rows, rootKind, admits}
 use Rattle.cdf_unit_table.specs.Tables.{those}
-use Rattle.cdf_unit_table.proofs.Bools.{both}
+use Rattle.cdf_unit_table.proofs.Bools.{both, clash}
 use Rattle.cdf_unit_table.proofs.Rows.{from-rows}
 use Rattle.cdf_unit_table.proofs.Tables.{same-below}
 use Rattle.cdf_unit_prefix.specs.Layout.{Layout, prefixOf}
@@ -76,13 +76,13 @@ ids-rise l s = of-end (listing l s .end)
 module _ (l : Layout) (root : Bool) (t : List ℕ) (id action len : ℕ) (q : headOf l root t ≡ Prefix id action len) where
   seven-if : (b : Bool) (j : Judged) → (j ≡ Fault 7 0 → ⊥) → (cond b (Fault 7 0) j ≡ Fault 7 0) ↔ (not b ≡ false)
   seven-if true j other = ((λ e. refl), (λ e. refl))
-  seven-if false j other = ((λ e. absurd (other e)), (λ e. let z : _≡_ {A = ℕ} 0 1 = cc in absurd (omega arith)))
+  seven-if false j other = ((λ e. absurd (other e)), (λ e. clash cc))
 
   body-other : (next : ℕ) (c : Body) → foundBy l id action len next c ≡ Fault 7 0 → ⊥
   unfolding foundBy
   body-other next Action e = let z : _≡_ {A = ℕ} 8 7 = cc in omega arith
   body-other next (Data k) e = let z : _≡_ {A = ℕ} 9 7 = cc in omega arith
-  body-other next (Whole k) e = let z : _≡_ {A = ℕ} 0 1 = cc in omega arith
+  body-other next (Whole k) e = clash cc
 
   seven : (state : ℕ) → (judgeOf l root state t ≡ Fault 7 0) ↔ (not (eqb (admits root state id) 0) ≡ false)
   unfolding judgeOf judgeBy judgeHead
@@ -100,7 +100,7 @@ module _ (l : Layout) (root : Bool) (t : List ℕ) (id action len : ℕ) (q : he
   told-seven state f e = rw (member-those f idsEnd id below, e) (seven state)
 
 -- A root's ids, by one computation.
-root-admits : (id : ℕ) → id < idsEnd → rootKind id ≡ not (eqb (admits true 0 id) 0)
+pub root-admits : (id : ℕ) → id < idsEnd → rootKind id ≡ not (eqb (admits true 0 id) 0)
 unfolding rootKind admits
 root-admits = same-below rootKind (λ id. not (eqb (admits true 0 id) 0)) idsEnd refl
 
@@ -109,8 +109,8 @@ turned-last : (us outer : List Unit) (o : Unit) → reverse us ≡ outer ++ (o �
 turned-last us outer o e = sym (reverse-reverse us) ∙ ap reverse e ∙ reverse-append outer (o ∷ [])
 
 never-last : (us outer : List Unit) (o : Unit) → us ≡ [] → us ≡ outer ++ (o ∷ []) → ⊥
-never-last us [] o n e = let z : _≡_ {A = ℕ} 0 1 = cc in omega arith
-never-last us (x ∷ outer) o n e = let z : _≡_ {A = ℕ} 0 1 = cc in omega arith
+never-last us [] o n e = clash cc
+never-last us (x ∷ outer) o n e = clash cc
 
 module _ (l : Layout) (s : List ℕ) where
   pub nested-ids : (o : Unit) → Last o (whyOf l s .units) → (t : List ℕ) (id action len : ℕ) → headOf l false t ≡ Prefix id action len →

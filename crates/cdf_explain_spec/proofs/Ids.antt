@@ -11,7 +11,7 @@ use Rattle.cdf_unit_table.specs.Ids.{idsEnd}
 use Rattle.cdf_unit_table.specs.States.{opens, admit, unitOf, complete, statesEnd}
 use Rattle.cdf_unit_table.specs.Heights.{heightIn, height}
 use Rattle.cdf_unit_table.specs.Tables.{those}
-use Rattle.cdf_unit_table.proofs.Bools.{both, of-cond}
+use Rattle.cdf_unit_table.proofs.Bools.{both, of-cond, clash}
 use Rattle.cdf_unit_table.proofs.Heights.{admit-lower, opens-lower}
 use Rattle.cdf_unit_table.proofs.Tests.{below-at}
 use Rattle.cdf_unit_list.specs.Units.{stateFrom, stateOf, inside}
@@ -70,14 +70,14 @@ pub record Lacks (os : List Open) : Type 0 where
 
 pub lacking : (os : List Open) (pos at : ℕ) → close os pos ≡ incomplete at → Lacks (unclosed os pos)
 unfolding close unclosed
-lacking [] pos at e = let z : _≡_ {A = ℕ} 0 1 = cc in absurd (omega arith)
+lacking [] pos at e = clash cc
 lacking (o ∷ os) pos at e = go (eqb (o .end) pos) (complete (o .state)) refl e (lacking os pos at)
   where
     go : (a b : Bool) → complete (o .state) ≡ b → cond a (cond b (close os pos) (incomplete (o .start))) (left (o ∷ os)) ≡ incomplete at →
         (close os pos ≡ incomplete at → Lacks (unclosed os pos)) → Lacks (cond (a && b) (unclosed os pos) (o ∷ os))
     go true true y e more = more e
     go true false y e more = record { inner = o; outer = os; is = refl; lacks = y }
-    go false b y e more = let z : _≡_ {A = ℕ} 0 1 = cc in absurd (omega arith)
+    go false b y e more = clash cc
 
 -- An incomplete unit admits something, by one test of the states.
 abbrev pub admittedIn : ℕ → List ℕ

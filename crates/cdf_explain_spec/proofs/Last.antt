@@ -1,12 +1,13 @@
 -- Where the unit list of refused bytes stops, and why.
 use Prim.Native.Nat.{ℕ, _-_, _≤_}
-use mathlib.Core.Path.{_≡_, refl, sym, _∙_}
+use mathlib.Core.Path.{_≡_, refl, sym, ap, _∙_}
 use mathlib.Core.Bool.{Bool, true, false}
 use mathlib.Core.List.{List, [], _∷_, _++_, reverse}
 use mathlib.Core.Logic.{_⊎_, inl, inr}
 use native.Mathlib.Omega.{arith}
 use lib.ListN.{take, drop}
 use Rattle.cdf_unit_table.specs.States.{complete}
+use Rattle.cdf_unit_table.proofs.Bools.{clash}
 use Rattle.cdf_unit_prefix.specs.Layout.{Layout}
 use Rattle.cdf_unit_judge.specs.Judge.{judgeOf}
 use Rattle.cdf_unit_judge.specs.declared.Judged.{Judged}
@@ -22,12 +23,13 @@ use Rattle.cdf_unit_list.proofs.Agreement.{Agrees, both-end, both-refuse, both-
 use Rattle.cdf_reader_spec.specs.Place.{ReaderPlace}
 use Rattle.cdf_explain_spec.specs.Why.{keptOpen, openAround, admittedBy, whyAfter, whyOf}
 use Rattle.cdf_explain_spec.specs.Claims.{Refused}
-use Rattle.cdf_explain_spec.proofs.Stands.{Stands, Stops, at-end, at-fault, final, why-after}
+use Rattle.cdf_reader_runs.proofs.Looping.{Stands, Stops, at-end, at-fault}
+use Rattle.cdf_explain_spec.proofs.Stands.{final, why-after}
 
-agrees-broken : {us : List Unit} {m : Next} {x : Step} → Agrees us m x → (n at : ℕ) → x ≡ refused n at → m ≡ broken n at
-agrees-broken both-end n at e = let z : _≡_ {A = ℕ} 0 1 = cc in absurd (omega arith)
+pub agrees-broken : {us : List Unit} {m : Next} {x : Step} → Agrees us m x → (n at : ℕ) → x ≡ refused n at → m ≡ broken n at
+agrees-broken both-end n at e = clash cc
 agrees-broken both-refuse n at e = cc
-agrees-broken (both-list few f) n at e = let z : _≡_ {A = ℕ} 0 1 = cc in absurd (omega arith)
+agrees-broken (both-list few f) n at e = clash cc
 
 -- Of the units that end at a position, closing goes through all, or stops at one that is incomplete.
 pub record Incomplete (us cs : List Unit) : Type 0 where
@@ -94,7 +96,7 @@ module _ (l : Layout) (s : List ℕ) where
       ids = admittedBy (w .before) (openAround (w .before));
     }
     unfolding whyAfter
-    why-is = why-after l s (w .before) (w .units) ∙ rw (w .end)
+    why-is = why-after l s (w .before) (w .units) ∙ ap (whyAfter (w .before)) (w .end)
 
     pub check-is : checkOf l s ≡ record { number = w .number; value = w .offset }
     unfolding checkOf answer answerOf
@@ -121,7 +123,7 @@ module _ (l : Layout) (s : List ℕ) where
     where
       go : (j : Judged) → judgeOf l root state t ≡ j → unitAt pos j ≡ broken n at → n ≤ 9
       go (Fault m k) q e = let same : m ≡ n = cc in omega (arith, fault-told l root t state q .high)
-      go (Found id action own len next) q e = let z : _≡_ {A = ℕ} 0 1 = cc in absurd (omega arith)
+      go (Found id action own len next) q e = clash cc
 
   pub start-low : (n at : ℕ) → Ends [] n at → n ≤ 9
   start-low = fault-low true 0 0 s
@@ -132,7 +134,7 @@ module _ (l : Layout) (s : List ℕ) where
     where
       judges : keptOpen (u ∷ us) (closingAt (after u) (u ∷ us)) ≡ [] → (os : List Unit) → openAt (after u) (u ∷ us) ≡ os →
           within l s (u ∷ us) (after u) os ≡ broken n at → Judges u us n at
-      judges k [] q e = let z : _≡_ {A = ℕ} 0 1 = cc in absurd (omega arith)
+      judges k [] q e = clash cc
       judges k (o ∷ os) q e = record {
         inner = o;
         outer = os;

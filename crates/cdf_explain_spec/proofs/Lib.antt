@@ -7,4 +7,8 @@ pub mod Members
 pub mod Last
 pub mod Surrounding
 pub mod Admitted
+pub mod Alike
+pub mod Trying
+pub mod Passing
+pub mod Exchanging
 pub mod Proved

@@ -10,6 +10,7 @@ use lib.Dec.{eqb}
 use Rattle.cdf_unit_table.specs.Ids.{member}
 use Rattle.cdf_unit_table.specs.States.{opens}
 use Rattle.cdf_unit_table.specs.Tables.{those}
+use Rattle.cdf_unit_table.proofs.Bools.{clash}
 use Rattle.cdf_unit_list.specs.Units.{parents}
 use Rattle.cdf_unit_list.specs.declared.Unit.{Unit}
 use Rattle.cdf_unit_list.proofs.Nested.{Nested}
@@ -21,8 +22,8 @@ each-at P here h = h .0
 each-at P (there o) h = each-at P o (h .1)
 
 none-in : {w : Unit} {us : List Unit} → OneOf w us → us ≡ [] → ⊥
-none-in here e = let z : _≡_ {A = ℕ} 0 1 = cc in omega arith
-none-in (there o) e = let z : _≡_ {A = ℕ} 0 1 = cc in omega arith
+none-in here e = clash cc
+none-in (there o) e = clash cc
 
 pub one-none : {w : Unit} → OneOf w [] → ⊥
 one-none o = none-in o refl

@@ -13,7 +13,7 @@ use Rattle.cdf_unit_judge.specs.Judge.{judgeOf}
 use Rattle.cdf_unit_judge.specs.declared.Judged.{Judged}
 use Rattle.cdf_unit_judge.specs.declared.Judged.the-variants.{Fault, Found}
 use Rattle.cdf_unit_judge.proofs.Faults.{told as fault-told}
-use Rattle.cdf_unit_table.proofs.Bools.{both}
+use Rattle.cdf_unit_table.proofs.Bools.{both, clash}
 use Rattle.cdf_unit_list.specs.Units.{after, End, unfinished, ended, fault, listing, stateOf}
 use Rattle.cdf_unit_list.specs.Check.{answerOf, answer, checkOf}
 use Rattle.cdf_unit_list.specs.Stack.{Closing, incomplete, left, close, Step, refused, entered, withState, stepIn, step}
@@ -30,7 +30,8 @@ use Rattle.cdf_reader_runs.proofs.Steps.{Run, ends, breaks, hands, listed}
 use Rattle.cdf_explain_spec.specs.Why.{nothingWrong, openAround, admittedBy, whyAfter, whyOf}
 use Rattle.cdf_explain_spec.specs.Claims.{Inwards, OneOf, Each}
 use Rattle.cdf_explain_spec.proofs.Kept.{around-is, around-rest}
-use Rattle.cdf_explain_spec.proofs.Stands.{Behind, Stands, Stops, at-end, at-fault, final, why-after}
+use Rattle.cdf_reader_runs.proofs.Looping.{Behind, Stands, Stops, at-end, at-fault}
+use Rattle.cdf_explain_spec.proofs.Stands.{final, why-after}
 use Rattle.cdf_explain_spec.proofs.Ids.{unclosed-states, unclosed-few, Lacks, lacking, incomplete-admits}
 use Rattle.cdf_explain_spec.proofs.Inwards.{outer-part, turned, each-listed}
 
@@ -108,10 +109,10 @@ module _ (l : Layout) (s : List ℕ) where
   start-fault : {x : Step} {us : List Unit} {e : End} → Run l s x us e → us ≡ [] → (j : Judged) → x ≡ entered 0 (λ state. []) j →
       (n : ℕ) × (at : ℕ) × (e ≡ fault n at)
   unfolding entered
-  start-fault ends none (Fault n k) q = let z : _≡_ {A = ℕ} 0 1 = cc in absurd (omega arith)
-  start-fault ends none (Found id action own len state) q = let z : _≡_ {A = ℕ} 0 1 = cc in absurd (omega arith)
+  start-fault ends none (Fault n k) q = clash cc
+  start-fault ends none (Found id action own len state) q = clash cc
   start-fault (breaks {n} {at}) none j q = (n, at, refl)
-  start-fault (hands run) none j q = let z : _≡_ {A = ℕ} 0 1 = cc in absurd (omega arith)
+  start-fault (hands run) none j q = clash cc
 
   -- So it tells a root's ids,
   start-is : listing l s .units ≡ [] → (whyOf l s .units ≡ []) × (whyOf l s .ids ≡ those rootKind idsEnd)
@@ -134,7 +135,7 @@ module _ (l : Layout) (s : List ℕ) where
     where
       go : (j : Judged) → judgeOf l root state t ≡ j → entered pos around j ≡ refused 10 at → ⊥
       go (Fault n k) q e = let z : n ≡ 10 = cc in omega (arith, fault-told l root t state q .high)
-      go (Found id action own len next) q e = let z : _≡_ {A = ℕ} 0 1 = cc in omega arith
+      go (Found id action own len next) q e = clash cc
 
   closing-ten : (os : List Open) (pos at : ℕ) → step l s os pos ≡ refused 10 at → Lacks (unclosed os pos)
   unfolding step stepIn
@@ -142,7 +143,7 @@ module _ (l : Layout) (s : List ℕ) where
     where
       go : (c : Closing) → close os pos ≡ c → stepIn l s pos c ≡ refused 10 at → Lacks (unclosed os pos)
       go (incomplete start) q e = lacking os pos start q
-      go (left []) q e = let z : _≡_ {A = ℕ} 0 1 = cc in absurd (omega arith)
+      go (left []) q e = clash cc
       go (left (o ∷ rest)) q e =
           let t = take (o .end - pos) (drop pos s) in
           absurd (judged-never pos at (λ state. withState o state ∷ rest) false (o .state) t e)
@@ -150,7 +151,7 @@ module _ (l : Layout) (s : List ℕ) where
   -- The innermost of the open units, where it is incomplete, admits something.
   lacking-ids : (us ws : List Unit) → States (map (openOf us) ws) → Lacks (map (openOf us) ws) → admittedBy us ws ≡ [] → ⊥
   unfolding admittedBy every
-  lacking-ids us [] h k none = let z : _≡_ {A = ℕ} 0 1 = cc in absurd (omega arith)
+  lacking-ids us [] h k none = clash cc
   lacking-ids us (w ∷ ws) h k none =
       let first : openOf us w ≡ k .inner = cc in
       let same = ap (λ (o : Open). o .state) first in

@@ -1,13 +1,13 @@
 -- What is claimed of what the tool tells. The term of this record stands in proofs/Proved.
-use Prim.Native.Nat.{ℕ, suc, _≤_, _<_}
+use Prim.Native.Nat.{ℕ, suc, _+_, _-_, _≤_, _<_}
 use mathlib.Core.Path.{_≡_}
 use mathlib.Core.Bool.{true, false}
 use mathlib.Core.List.{List, [], _∷_, _++_, reverse}
 use mathlib.Core.Logic.{_⊎_, _↔_}
-use lib.ListN.{length}
+use lib.ListN.{length, set}
 use Rattle.cdf_unit_table.specs.Ids.{member}
 use Rattle.cdf_unit_table.specs.States.{opens}
-use Rattle.cdf_unit_prefix.specs.Layout.{Layout}
+use Rattle.cdf_unit_prefix.specs.Layout.{Layout, prefixOf}
 use Rattle.cdf_unit_prefix.specs.Rules.{headOf}
 use Rattle.cdf_unit_prefix.specs.declared.Header.the-variants.{Prefix}
 use Rattle.cdf_unit_judge.specs.Judge.{judgeOf}
@@ -61,6 +61,10 @@ OpenAt l s point u =
 abbrev pub Last : Unit → List Unit → Type 0
 Last u us = (outer : List Unit) × (us ≡ outer ++ (u ∷ []))
 
+-- The bytes with this id in the prefix at a position.
+abbrev pub withId : Layout → ℕ → ℕ → List ℕ → List ℕ
+withId l at id s = set s (at + (prefixOf l - 1)) id
+
 -- The numbers rise, from a on and below b.
 abbrev pub Rising : ℕ → ℕ → List ℕ → Type 0
 Rising a b [] = a ≤ b
@@ -72,12 +76,15 @@ pub record Claims : Type 0 where
   -- Of bytes that the check accepts nothing is wrong,
   pub accepted : (l : Layout) (s : List ℕ) → checkOf l s .number ≡ 0 → whyOf l s ≡ nothingWrong
   -- and of any others the number and the offset are the check's.
-  pub refused : (l : Layout) (s : List ℕ) → (checkOf l s .number ≡ 0 → ⊥) →
+  pub refused : (l : Layout) (s : List ℕ) → Refused l s →
       (whyOf l s .number ≡ checkOf l s .number) × (whyOf l s .offset ≡ checkOf l s .value)
   -- The open units are listed, each lies inside the one before it, and there are at most four.
   pub listed : (l : Layout) (s : List ℕ) → Each (λ u. OneOf u (listing l s .units)) (whyOf l s .units)
   pub inside : (l : Layout) (s : List ℕ) → Inwards (whyOf l s .units)
   pub four : (l : Layout) (s : List ℕ) → length (whyOf l s .units) ≤ 4
+  -- Of refused bytes the offset is the point, but for 9 and 10.
+  pub stands : (l : Layout) (s : List ℕ) → Refused l s → (checkOf l s .number ≡ 9 → ⊥) → (checkOf l s .number ≡ 10 → ⊥) →
+      checkOf l s .value ≡ pointOf l s
   -- Of refused bytes a unit is told exactly if it is open at the point,
   pub told : (l : Layout) (s : List ℕ) → Refused l s → (u : Unit) → OneOf u (whyOf l s .units) ↔ OpenAt l s (pointOf l s) u
   -- and at 10 the last of them is the incomplete one: it starts at the offset, and ends at the point.
@@ -92,6 +99,10 @@ pub record Claims : Type 0 where
   -- and where the start is refused, judged as a root.
   pub rooted : (l : Layout) (s : List ℕ) → listing l s .units ≡ [] → (t : List ℕ) (id action len : ℕ) → headOf l true t ≡ Prefix id action len →
       (judgeOf l true 0 t ≡ Fault 7 0) ↔ (member id (whyOf l s .ids) ≡ false)
+  -- Where the refused unit itself passes 3 to 6, the check says so: with any id in the place of its own, it gives 7 at the point exactly if that
+  -- id is not told.
+  pub exchanged : (l : Layout) (s : List ℕ) → 7 ≤ checkOf l s .number → checkOf l s .number ≤ 9 → (id : ℕ) → 1 ≤ id → id ≤ 14 →
+      (checkOf l (withId l (pointOf l s) id s) ≡ record { number = 7; value = pointOf l s }) ↔ (member id (whyOf l s .ids) ≡ false)
   -- Of a refused start nothing is open, and the ids that a root may have are told.
   pub start : (l : Layout) (s : List ℕ) → listing l s .units ≡ [] →
       (whyOf l s .units ≡ []) × (whyOf l s .ids ≡ 1 ∷ 4 ∷ 13 ∷ [])

@@ -4,7 +4,6 @@ use mathlib.Core.Path.{_≡_, refl, sym, subst}
 use mathlib.Core.Bool.{Bool, true, false, cond, or-false}
 use mathlib.Core.List.{List, [], _∷_, _++_, append-nil, cons≢nil}
 use mathlib.Core.Logic.{_↔_, inl, inr}
-use native.Mathlib.Omega.{arith}
 use lib.Dec.{T, eqb, eqb→eq}
 use lib.ListN.{length, take}
 use lib.Seq.{take-append-seam, take-length}
@@ -12,6 +11,7 @@ use Rattle.cdf_unit_prefix.specs.Layout.{Layout}
 use Rattle.cdf_unit_table.specs.Ids.{member, actionAllowed, stream, erGroup, fileGroup}
 use Rattle.cdf_unit_table.specs.States.{opens, rootKind}
 use Rattle.cdf_unit_table.proofs.Tests.{or-else}
+use Rattle.cdf_unit_table.proofs.Bools.{clash}
 use Rattle.cdf_grammar.specs.Content.{Spells}
 use Rattle.cdf_grammar.specs.Trees.{Forest, none, tree, ids}
 use Rattle.cdf_grammar.specs.Published.{Follows, Conforms, productionOf, cdfDataStream}
@@ -24,7 +24,7 @@ use Rattle.cdf_grammar.proofs.TextAgrees.{text-taken, text-exact, taken
 no-trees : (t : Forest) → (ids t ≡ []) ↔ (t ≡ none)
 unfolding ids
 no-trees none = (λ e. refl, λ e. refl)
-no-trees (tree id action text inner rest) = (λ e. absurd (cons≢nil e), λ e. let z : _≡_ {A = ℕ} 0 1 = cc in absurd (omega arith))
+no-trees (tree id action text inner rest) = (λ e. absurd (cons≢nil e), λ e. clash cc)
 
 module _ (l : Layout) (id action : ℕ) (text : List ℕ) (inner : Forest) where
   follows-passes : Follows id action text inner → Passes l id action text inner

@@ -11,7 +11,8 @@ use Rattle.cdf_unit_prefix.specs.Layout.{Layout, prefixOf}
 use Rattle.cdf_unit_table.specs.States.{opens, nothing, admit, complete, rootKind}
 use Rattle.cdf_unit_judge.specs.Judge.{judgeOf}
 use Rattle.cdf_unit_list.specs.Units.{after, ended, Listing, listing}
-use Rattle.cdf_unit_list.specs.Stack.{opened, withState, step, stepsFrom}
+use Rattle.cdf_unit_list.specs.Stack.{opened, withState, step}
+use Rattle.cdf_unit_list.specs.Steps.{stepsFrom}
 use Rattle.cdf_unit_list.specs.declared.Unit.{Unit}
 use Rattle.cdf_unit_list.specs.declared.Open.{Open}
 use Rattle.cdf_unit_judge.specs.declared.Judged.{Judged}
@@ -25,6 +26,7 @@ use Rattle.cdf_unit_table.proofs.Parts.{drop-take}
 use Rattle.cdf_grammar.proofs.Parts.{part-left, part-bytes}
 use Rattle.cdf_grammar.proofs.Written.{textOf, UnitIs, unit-written}
 use Rattle.cdf_unit_table.proofs.Rows.{admits-nested, root-kind}
+use Rattle.cdf_unit_table.proofs.Bools.{clash}
 use Rattle.cdf_unit_list.proofs.Stepping.{fresh, step-inside, step-closes, steps-on, listing-steps}
 use Rattle.cdf_unit_list.proofs.Stepping.{faults, enters, opened-parent, refused-never, spent-never}
 use Rattle.cdf_grammar.proofs.Nesting.{leaves, nest-unit}
@@ -137,10 +139,10 @@ module _ (l : Layout) (S : List ℕ) (b : Bytes S) where
             let v = ends F h (fresh u) os (pos + own) us (omega arith) (omega (arith, few)) (rw (w .0, w .1) at q) in
             let inner : encode l (v .trees) ≡ drop k body = sym (after-own ∙ v .bytes) in
             let all : textOf id k body ++ encode l (v .trees) ≡ body = rw (e, inner, take-append-drop) in
-            unit (v .trees) all (λ x. v .full) (λ x. let z : _≡_ {A = ℕ} 0 1 = cc in absurd (omega arith)) (v .fits)
+            unit (v .trees) all (λ x. v .full) (λ x. clash cc) (v .fits)
         go false e =
             let all : textOf id k body ++ encode l none ≡ body = rw (e, take-length, encode-none, append-nil) in
-            unit none all (λ x. let z : _≡_ {A = ℕ} 0 1 = cc in absurd (omega arith)) (λ x. refl) (record {})
+            unit none all (λ x. clash cc) (λ x. refl) (record {})
 
   -- The unit at a position is left at its end, and the steps go on in the one around it.
   inside-ends : (N : ℕ) → Ends l S N → (F : ℕ) → F < N → (o : Open) (os : List Open) (pos : ℕ) (us : List Unit) → pos < o .end →

@@ -3,11 +3,11 @@ use Prim.Native.Nat.{ℕ}
 use mathlib.Core.Path.{_≡_, refl}
 use mathlib.Core.Bool.{true, false}
 use mathlib.Core.List.{List, [], _∷_, _++_}
-use native.Mathlib.Omega.{arith}
 use lib.ListN.{length}
 use Rattle.cdf_unit_prefix.specs.Layout.{Layout}
 use Rattle.cdf_unit_table.specs.Ids.{known, actionAllowed}
 use Rattle.cdf_unit_table.specs.States.{opens, nothing, admit, complete}
+use Rattle.cdf_unit_table.proofs.Bools.{clash}
 use Rattle.cdf_unit_data.specs.Data.{ownData}
 use Rattle.cdf_unit_data.specs.declared.Own.the-variants.{Taken}
 use Rattle.cdf_grammar.specs.Trees.{Forest, none, tree, ids}
@@ -28,7 +28,7 @@ through-none (c ∷ cs) = through-none cs
 -- A complete unit is in a state.
 pub complete-some : (state : ℕ) → complete state ≡ true → state ≡ 0 → ⊥
 unfolding complete
-complete-some state e z = let f : false ≡ true = rw z at e in let n : _≡_ {A = ℕ} 0 1 = cc in omega arith
+complete-some state e z = let f : false ≡ true = rw z at e in clash cc
 
 -- How many bytes of a unit's own data are its name or fixed numbers.
 abbrev pub ownOf : ℕ → List ℕ → ℕ

@@ -10,7 +10,8 @@ use Rattle.cdf_unit_prefix.specs.Layout.{Layout, prefixOf}
 use Rattle.cdf_unit_table.specs.States.{opens, nothing, admit, rootKind}
 use Rattle.cdf_unit_judge.specs.Judge.{judgeOf}
 use Rattle.cdf_unit_list.specs.Units.{after, listing, ended}
-use Rattle.cdf_unit_list.specs.Stack.{opened, entered, withState, step, stepsFrom}
+use Rattle.cdf_unit_list.specs.Stack.{opened, entered, withState, step}
+use Rattle.cdf_unit_list.specs.Steps.{stepsFrom}
 use Rattle.cdf_unit_list.specs.declared.Unit.{Unit}
 use Rattle.cdf_unit_list.specs.declared.Open.{Open}
 use Rattle.cdf_unit_judge.specs.declared.Judged.the-variants.{Found}
@@ -21,6 +22,7 @@ use Rattle.cdf_grammar.proofs.Fits.{through, through-none, complete-som
 use Rattle.cdf_grammar.proofs.Prefixes.{length-prefix}
 use Rattle.cdf_grammar.proofs.Built.{encode-none, encode-tree, sizeOf, unit-is, length-unit, unit-judged}
 use Rattle.cdf_unit_table.proofs.Rows.{admits-nested, admits-root, root-opens}
+use Rattle.cdf_unit_table.proofs.Bools.{clash}
 use Rattle.cdf_unit_list.proofs.Stepping.{fresh, step-inside, step-closes, steps-end, steps-on}
 use Rattle.cdf_unit_list.proofs.Stepping.{listing-steps, enters, opened-parent, opened-leaf}
 
@@ -148,7 +150,7 @@ module _ (l : Layout) (S : List ℕ) where
         let behind = append-assoc bytes (encode l rest) (take n more) in
         let left : take (o .end - pos) (drop pos S) ≡ bytes ++ (encode l rest ++ take n more) = cc in
         let some-next : next ≡ 0 → ⊥ = λ e. some (ap (λ h. through h (ids rest)) e ∙ through-none (ids rest)) in
-        let nested : false ≡ true → ⊥ = λ r. let z : _≡_ {A = ℕ} 0 1 = cc in omega arith in
+        let nested : false ≡ true → ⊥ = λ r. clash cc in
         let few : sizeOf l text inner < 256 ^ l .lengthBytes = omega (arith, length-drop pos S) in
         let ahead = encode l rest ++ take n more in
         let judged = unit-judged p few false (o .state) next (admits-nested (o .state) id) some-next ahead (λ r. absurd (nested r)) in
@@ -211,8 +213,8 @@ pub lists : (l : Layout) → l .limit < 256 ^ l .lengthBytes → (s : List ℕ) 
     rootKind id ≡ true → Fits l t → encode l t ≡ s → length s ≤ l .limit →
     listing l s ≡ record { units = list l 0 t; end = ended }
 unfolding ids
-lists l wide s none id one root fit e short = let z : _≡_ {A = ℕ} 0 1 = cc in absurd (omega arith)
+lists l wide s none id one root fit e short = clash cc
 lists l wide s (tree i action text inner none) id one root fit e short =
     let same : id ≡ i = cc in root-lists l wide s i action text inner (rw same at root) fit e short
 lists l wide s (tree i action text inner (tree j a x f g)) id one root fit e short =
-    let z : _≡_ {A = ℕ} 0 1 = cc in absurd (omega arith)
+    clash cc

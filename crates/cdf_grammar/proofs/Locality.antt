@@ -15,7 +15,8 @@ use Rattle.cdf_unit_table.specs.States.{opens, complete}
 use Rattle.cdf_unit_judge.specs.Judge.{judgeOf}
 use Rattle.cdf_unit_list.specs.Units.{End, unfinished, ended, fault, Listing, listingIn}
 use Rattle.cdf_unit_list.specs.Stack.{incomplete, left, close, Step, done, refused, found, entered, withState}
-use Rattle.cdf_unit_list.specs.Stack.{stepIn, step, stepsFrom, steps}
+use Rattle.cdf_unit_list.specs.Stack.{stepIn, step}
+use Rattle.cdf_unit_list.specs.Steps.{stepsFrom, steps}
 use Rattle.cdf_unit_list.specs.declared.Unit.{Unit}
 use Rattle.cdf_unit_list.specs.declared.Open.{Open}
 use Rattle.cdf_unit_judge.specs.declared.Judged.{Judged}

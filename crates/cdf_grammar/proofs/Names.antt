@@ -12,7 +12,7 @@ use lib.Seq.{take-at, length-take-le}
 use Rattle.cdf_unit_data.specs.Data.{letter, nameByte, nameRun, nameFront, spelled, nameOf}
 use Rattle.cdf_unit_data.specs.declared.Own.{Own}
 use Rattle.cdf_unit_data.specs.declared.Own.the-variants.{Taken, Broken}
-use Rattle.cdf_unit_table.proofs.Bools.{both, either}
+use Rattle.cdf_unit_table.proofs.Bools.{both, either, clash}
 use Rattle.cdf_grammar.specs.Published.{Each, Letter, NameByte, Name}
 
 letter-is : (b : ℕ) → (letter b ≡ true) ↔ Letter b
@@ -78,7 +78,7 @@ counted-name count (b ∷ s) c = go (letter b) refl (c .front)
 -- What takes bytes has passed the test.
 pub taken : (b : Bool) (x : Own) (j k : ℕ) → cond b x (Broken j) ≡ Taken k → (b ≡ true) × (x ≡ Taken k)
 taken true x j k e = (refl, e)
-taken false x j k e = let z : _≡_ {A = ℕ} 0 1 = cc in absurd (omega arith)
+taken false x j k e = clash cc
 
 pub name-taken : (text inner : List ℕ) → Name text → nameOf (text ++ inner) ≡ Taken (length text)
 unfolding nameOf spelled
@@ -95,7 +95,7 @@ name-size (count ∷ s) rest n = ap suc (sym (name-counted count s n .size))
 
 pub taken-name : (s : List ℕ) (k : ℕ) → nameOf s ≡ Taken k → Name (take k s) × (length (take k s) ≡ k)
 unfolding nameOf spelled
-taken-name [] k e = let z : _≡_ {A = ℕ} 0 1 = cc in absurd (omega arith)
+taken-name [] k e = clash cc
 taken-name (count ∷ s) k e =
     let w = taken (leb 1 count && (leb count 32 && leb count (length s))) _ 0 k e in
     let v = taken (eqb (nameFront (take count s)) count) (Taken (1 + count)) (1 + nameFront (take count s)) k (w .1) in

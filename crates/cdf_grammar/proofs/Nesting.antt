@@ -13,7 +13,8 @@ use Rattle.cdf_unit_table.specs.States.{opens, complete}
 use Rattle.cdf_unit_judge.specs.Judge.{judgeOf}
 use Rattle.cdf_unit_list.specs.Units.{after, End, ended, Listing}
 use Rattle.cdf_unit_list.specs.Stack.{Closing, incomplete, left, close, Step, done, refused, found, opened, entered, withState}
-use Rattle.cdf_unit_list.specs.Stack.{stepIn, step, stepsFrom}
+use Rattle.cdf_unit_list.specs.Stack.{stepIn, step}
+use Rattle.cdf_unit_list.specs.Steps.{stepsFrom}
 use Rattle.cdf_unit_list.specs.declared.Unit.{Unit}
 use Rattle.cdf_unit_list.specs.declared.Open.{Open}
 use Rattle.cdf_unit_judge.specs.declared.Judged.{Judged}

@@ -3,8 +3,8 @@ use Prim.Native.Nat.{ℕ}
 use mathlib.Core.Path.{_≡_, refl, ap}
 use mathlib.Core.List.{List, [], _∷_, _++_, append-nil}
 use mathlib.Core.Logic.{inl, inr}
-use native.Mathlib.Omega.{arith}
 use Rattle.cdf_unit_table.specs.Ids.{template, temporaryKey, templateKey, field, entityKey}
+use Rattle.cdf_unit_table.proofs.Bools.{clash}
 use Rattle.cdf_grammar.specs.Content.{one, Spells, Pieces, end, piece}
 use Rattle.cdf_grammar.specs.Trees.{Forest, none, tree, ids}
 use Rattle.cdf_grammar.specs.Published.{Each, Among, tmplKeyList, productionOf, Conforms}
@@ -26,7 +26,7 @@ unfolding keysAmong
 then-fields cs fs (inl e) h = inl (rw e (ap (λ r. temporaryKey ∷ r) (keys-none fs h)))
 then-fields cs fs (inr (front, rest, e, p, more)) h =
     let all = pieces-each templateKey more in
-    rw (e, p) (inr ((λ z. let z : _≡_ {A = ℕ} 0 1 = cc in omega arith), (refl, rw (keys-then rest fs all h) all)))
+    rw (e, p) (inr ((λ z. clash cc), (refl, rw (keys-then rest fs all h) all)))
   where
     keys-then : (cs fs : List ℕ) → Each (λ c. c ≡ templateKey) cs → Each (λ c. c ≡ field) fs → keysAmong (cs ++ fs) ≡ cs
     keys-then [] fs all h = keys-none fs h

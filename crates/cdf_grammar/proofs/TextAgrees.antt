@@ -10,6 +10,7 @@ use lib.ListN.{length, take, drop, length-append, length-drop, take-append-drop}
 use lib.Seq.{length-take-le, take-length}
 use Rattle.cdf_unit_table.specs.Ids.{Rule, blank, name, nameValue, value, numbers, kindOf, known}
 use Rattle.cdf_unit_table.specs.States.{opens}
+use Rattle.cdf_unit_table.proofs.Bools.{clash}
 use Rattle.cdf_unit_data.specs.Data.{nameOf, valueAfter, dataBy, ownData}
 use Rattle.cdf_unit_data.specs.declared.Own.{Own}
 use Rattle.cdf_unit_data.specs.declared.Own.the-variants.{Taken, Broken}
@@ -52,7 +53,7 @@ value-after s (Taken j) k e =
     let w = taken (leb (length s) (j + 4096)) (Taken j) (j + 4096) k e in
     let z : j ≡ k = cc (w .1) in
     (w .1, rw z at (leb-true (length s) (j + 4096) (w .0)))
-value-after s (Broken j) k e = let z : _≡_ {A = ℕ} 0 1 = cc in absurd (omega arith)
+value-after s (Broken j) k e = clash cc
 
 taken-rule : (r : Rule) (others : Bool) → suits true r others ≡ true → (s : List ℕ) (k : ℕ) → dataBy r others s ≡ Taken k →
     (text : List ℕ) → text ≡ take (cond others k (length s)) s → TextIs (textOf r) text × (ownLength (textOf r) text ≡ k)

@@ -24,16 +24,16 @@ erDataGroup = one 4
 abbrev template : Content
 template = one 5
 
--- <tmpl_key>: a temporary key (<temp_key>) or a template key
-abbrev tempKey : Content
-tempKey = one 6
+-- <tmpl_key> has two forms: one with the id of a temporary key, and one with that of a template key
+abbrev temporaryTmplKey : Content
+temporaryTmplKey = one 6
 
-abbrev tmplKey : Content
-tmplKey = one 7
+abbrev lastingTmplKey : Content
+lastingTmplKey = one 7
 
 -- <tmpl_key_list>, as 02, c mends it: one temporary key, or one or more template keys
 abbrev pub tmplKeyList : Content
-tmplKeyList = either tempKey (some tmplKey)
+tmplKeyList = either temporaryTmplKey (some lastingTmplKey)
 
 abbrev field : Content
 field = one 8

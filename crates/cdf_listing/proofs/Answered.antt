@@ -2,8 +2,8 @@
 use Prim.Native.Nat.{ℕ}
 use mathlib.Core.Path.{_≡_, refl}
 use mathlib.Core.List.{List, _++_}
-use native.Mathlib.Omega.{arith}
 use lib.ListN.{length}
+use Rattle.cdf_unit_table.proofs.Bools.{clash}
 use Rattle.cdf_unit_prefix.specs.Layout.{Layout}
 use Rattle.cdf_unit_list.specs.Units.{End, unfinished, ended, fault, listing}
 use Rattle.cdf_unit_list.proofs.Proved.{proved}
@@ -21,7 +21,7 @@ module _ (l : Layout) (s : List ℕ) where
           listingText l s ≡ listedLines l s ++ okLine n
       go unfinished q e = absurd (proved .finishes l s q)
       go ended q e = let same : length (listing l s .units) ≡ n = cc in rw (← same) (ok-text l s q)
-      go (fault k at) q e = let z : _≡_ {A = ℕ} 0 1 = cc in absurd (omega arith)
+      go (fault k at) q e = clash cc
 
   pub turned-down : (n offset : ℕ) → checkedOf (listing l s) ≡ Refused n offset → listingText l s ≡ refusedLine n offset
   unfolding checkedOf checkedBy
@@ -30,7 +30,7 @@ module _ (l : Layout) (s : List ℕ) where
       go : (x : End) → listing l s .end ≡ x → checkedBy (length (listing l s .units)) x ≡ Refused n offset →
           listingText l s ≡ refusedLine n offset
       go unfinished q e = absurd (proved .finishes l s q)
-      go ended q e = let z : _≡_ {A = ℕ} 0 1 = cc in absurd (omega arith)
+      go ended q e = clash cc
       go (fault k at) q e =
           let number : k ≡ n = cc in
           let place : at ≡ offset = cc in

@@ -1,20 +1,22 @@
 -- The lines of the units in the buffer, turn by turn.
 use Prim.Native.Nat.{ℕ, _^_, _≤_, _<_}
 use mathlib.Core.Path.{_≡_, ap}
-use mathlib.Core.List.{List, [], _++_}
+use mathlib.Core.List.{List, [], _∷_}
 use native.Mathlib.Omega.{arith}
 use lib.ListN.{length, length-append}
 use Rattle.cdf_unit_prefix.specs.Layout.{layoutOf}
 use Rattle.cdf_unit_prefix.specs.declared.Edition.the-variants.{First}
 use Rattle.cdf_reader_spec.specs.Calls.{firstOf, nextOf}
+use Rattle.cdf_unit_list.specs.declared.Unit.{Unit}
+use Rattle.cdf_reader_runs.proofs.Looping.{Going, begun, Turn, turned, over}
 use Rattle.cdf_reader_runs.proofs.Further.{first-later, next-later, ahead, less}
 use Rattle.cdf_reader.specs.View.{view, replyOf}
 use Rattle.cdf_reader.specs.declared.Answer.{Answer}
-use Rattle.cdf_reader.proofs.Counted.{length-open}
+use Rattle.cdf_reader_spec.proofs.Counted.{length-open}
 use Rattle.cdf_listing_spec.specs.Text.{lineOf, listedLines}
 use Rattle.cdf_listing_spec.proofs.Deep.{depthIn}
 use Rattle.cdf_listing_spec.proofs.Short.{listed-short}
-use Rattle.cdf_listing_spec.proofs.Going.{Going, begun, lineIn, Turn, turn, over}
+use Rattle.cdf_listing_spec.proofs.Lines.{lineIn, textOf, lines-on, lines-over, text-next}
 use Rattle.cdf_listing_lines.specs.Put.{Put}
 use Rattle.cdf_listing_lines.proofs.Putting.{nothing-put, put-both}
 
@@ -28,14 +30,15 @@ line-by a = rw length-open
 module _ (s : List ℕ) where
   -- The lines before the answer in hand were put at the front.
   pub record Lined (before : List ℕ) (a : Answer) (after : List ℕ) (at : ℕ) : Type 0 where
-    pub text : List ℕ
-    pub going : Going (layoutOf First) s (replyOf a) text
-    pub put : Put before 0 text after at
+    pub units : List Unit
+    pub going : Going (layoutOf First) s units (replyOf a)
+    pub put : Put before 0 (textOf units) after at
     pub inside : a .number ≡ 0 → a .place .position ≤ length s
 
   pub lined-first : (before : List ℕ) (a : Answer) → replyOf a ≡ firstOf (layoutOf First) s → Lined before a before 0
+  unfolding textOf
   lined-first before a e = record {
-    text = [];
+    units = [];
     going = begun (layoutOf First) s (replyOf a) e;
     put = nothing-put before 0;
     inside = λ z. (rw (← e) at (first-later (layoutOf First) s)) z .1;
@@ -43,7 +46,9 @@ module _ (s : List ℕ) where
 
   pub lined-over : {before after : List ℕ} {a : Answer} {at : ℕ} → Lined before a after at → (a .number ≡ 0 → ⊥) →
       Put before 0 (listedLines (layoutOf First) s) after at
-  lined-over {a = a} w some = rw (over (layoutOf First) s (replyOf a) (w .text) (w .going) some) (w .put)
+  lined-over {a = a} w some =
+      let l = layoutOf First in
+      rw (lines-over l s (w .units) (replyOf a) (over l s (w .units) (replyOf a) (w .going) some)) (w .put)
 
   -- Behind all lines a place is still near the front.
   pub lines-near : {before after : List ℕ} {at : ℕ} → Put before 0 (listedLines (layoutOf First) s) after at → at < 2 ^ 32
@@ -51,24 +56,26 @@ module _ (s : List ℕ) where
 
   -- A unit was handed out.
   module _ {before after : List ℕ} {a : Answer} {at : ℕ} (w : Lined before a after at) (z : a .number ≡ 0) where
-    here : Turn (layoutOf First) s (replyOf a) (w .text)
-    here = turn (layoutOf First) s (replyOf a) (w .text) (w .going) z
+    here : Turn (layoutOf First) s (w .units) (replyOf a)
+    here = turned (layoutOf First) s (w .units) (replyOf a) (w .going) z
 
     pub lined-few : a .place .count ≤ 4
     lined-few = rw length-open at (here .few)
 
     pub lined-ordered : a .unit .start ≤ a .unit .end
-    lined-ordered = here .ordered
+    lined-ordered = omega (arith, here .own, here .end)
 
     pub lined-near : at < 2 ^ 32
-    lined-near = omega (arith, listed-short s, w .put .next, simp length-append at (ap length (here .part .1)))
+    lined-near =
+        let lines = simp length-append at (ap length (lines-on (layoutOf First) s (w .units) (replyOf a) (w .going))) in
+        omega (arith, listed-short s, w .put .next, lines)
 
     pub lined-next : (r : Answer) → replyOf r ≡ nextOf (layoutOf First) s (view (a .place)) → {more : List ℕ} {next : ℕ} →
         Put after at (lineBy a) more next → Lined before r more next
     lined-next r e p = record {
-      text = w .text ++ lineBy a;
-      going = rw (e, ← line-by a) (here .next);
-      put = put-both (w .put) p;
+      units = a .unit ∷ w .units;
+      going = rw e (here .next);
+      put = rw (text-next (layoutOf First) s (w .units) (replyOf a) here, line-by a) (put-both (w .put) p);
       inside = λ y. (rw (← e) at (next-later (layoutOf First) s (view (a .place)))) y .1;
     }
 

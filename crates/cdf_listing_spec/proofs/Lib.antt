@@ -2,5 +2,5 @@ pub mod Digits
 pub mod Within
 pub mod Short
 pub mod Deep
-pub mod Going
+pub mod Lines
 pub mod Proved

@@ -11,7 +11,7 @@ use lib.Dec.{leb, ltb, eqb}
 use lib.ListN.{length, take, drop, length-take, length-drop}
 use Rattle.cdf_unit_table.specs.Ids.{idsEnd, known, kindOf, actionAllowed}
 use Rattle.cdf_unit_table.specs.States.{opens, complete}
-use Rattle.cdf_unit_table.proofs.Bools.{both, of-cond}
+use Rattle.cdf_unit_table.proofs.Bools.{both, of-cond, clash}
 use Rattle.cdf_unit_table.proofs.Tests.{all, below-at, not-member}
 use Rattle.cdf_unit_prefix.specs.Layout.{Layout}
 use Rattle.cdf_unit_judge.specs.Judge.{judgeOf}
@@ -128,7 +128,7 @@ module _ (l : Layout) (s : List ℕ) where
   refused-none : {x : Step} {us : List Unit} {e : End} → Run l s x us e → (n at : ℕ) → x ≡ refused n at → us ≡ []
   refused-none ends n at e = refl
   refused-none breaks n at e = refl
-  refused-none (hands run) n at e = let z : _≡_ {A = ℕ} 0 1 = cc in absurd (omega arith)
+  refused-none (hands run) n at e = clash cc
 
   -- No unit is listed, or the bytes are no more than the longest stream has.
   pub limited : (listing l s .units ≡ []) ⊎ (length s ≤ l .limit)

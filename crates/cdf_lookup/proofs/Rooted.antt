@@ -7,7 +7,7 @@ use native.Mathlib.Omega.{arith}
 use lib.Dec.{eqb}
 use lib.ListN.{length}
 use Rattle.cdf_unit_table.specs.Ids.{erGroup}
-use Rattle.cdf_unit_table.proofs.Bools.{of-cond}
+use Rattle.cdf_unit_table.proofs.Bools.{of-cond, clash}
 use Rattle.cdf_unit_prefix.specs.Layout.{Layout}
 use Rattle.cdf_unit_list.specs.Units.{End, unfinished, ended, fault, listing}
 use Rattle.cdf_unit_list.specs.Check.{checkOf}
@@ -28,7 +28,7 @@ module _ (l : Layout) (s : List ℕ) where
     where
       go : (x : End) → listing l s .end ≡ x → Refused n at ≡ checkedBy (length (listing l s .units)) x → ⊥
       go unfinished q e = let same : n ≡ 99 = cc in omega arith
-      go ended q e = let no : _≡_ {A = ℕ} 0 1 = cc in omega arith
+      go ended q e = clash cc
       go (fault m k) q e = let same : n ≡ m = cc in omega (arith, proved .numbered l s q)
 
   -- The unit of a start is listed first; beside any other number it is the unit of zeros.

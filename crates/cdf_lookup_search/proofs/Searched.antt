@@ -7,11 +7,11 @@ use native.Mathlib.Omega.{arith}
 use lib.Dec.{ltb}
 use lib.ListN.{length}
 use Rattle.cdf_unit_table.specs.Ids.{template, field}
-use Rattle.cdf_unit_table.proofs.Bools.{of-cond}
+use Rattle.cdf_unit_table.proofs.Bools.{of-cond, clash}
 use Rattle.cdf_unit_prefix.specs.Layout.{Layout}
 use Rattle.cdf_unit_list.specs.declared.Unit.{Unit}
 use Rattle.cdf_reader_spec.specs.Calls.{Reply, nextOf}
-use Rattle.cdf_reader_runs.proofs.Folding.{Going, Turn, over}
+use Rattle.cdf_reader_runs.proofs.Folding.{Going, Turn, folded, over}
 use Rattle.cdf_lookup_spec.specs.Find.{Query, named, isThatKey}
 use Rattle.cdf_lookup_spec.specs.Search.{advanceOf, outcomeOf, isOver, searchOf}
 use Rattle.cdf_lookup_spec.specs.declared.Search.{Search}
@@ -21,7 +21,7 @@ use Rattle.cdf_lookup_spec.proofs.Searching.{over-stays}
 use Rattle.cdf_lookup_search.specs.Placed.{Lies, Placed}
 
 pub nowhere : (n : ℕ) → Placed n Missing
-nowhere n start end e = let z : _≡_ {A = ℕ} 0 1 = cc in absurd (omega arith)
+nowhere n start end e = clash cc
 
 module _ (l : Layout) (s : List ℕ) (q : Query) where
   -- What one more unit leaves lies in the bytes.
@@ -67,4 +67,5 @@ module _ (l : Layout) (s : List ℕ) (q : Query) where
   over-early a Seeking g e = absurd (false≢true e)
   over-early a (Named end) g e = absurd (false≢true e)
   over-early a (Inside end) g e = absurd (false≢true e)
-  over-early a (Over v) g e = sym (ap outcomeOf (g .folded) ∙ over-stays l s q v (g .units))
+  over-early a (Over v) g e =
+      sym (ap outcomeOf (folded (advanceOf l s q) l s Seeking a (Over v) g) ∙ over-stays l s q v (g .going .units))

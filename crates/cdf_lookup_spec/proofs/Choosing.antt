@@ -10,7 +10,7 @@ use borrow.Author.Tests.{eqb-false, not-true}
 use lib.Dec.{eqb}
 use lib.ListN.{length}
 use Rattle.cdf_unit_table.specs.Ids.{field}
-use Rattle.cdf_unit_table.proofs.Bools.{of-cond}
+use Rattle.cdf_unit_table.proofs.Bools.{of-cond, clash}
 use Rattle.cdf_unit_prefix.specs.Layout.{Layout}
 use Rattle.cdf_unit_list.specs.Units.{End, unfinished, ended, fault, listing}
 use Rattle.cdf_unit_list.specs.Check.{answerOf, answer, checkOf}
@@ -87,7 +87,7 @@ module _ (l : Layout) (s : List ℕ) (q : Query) where
     where
       with-field : (t : Unit) → firstThat isAsked (listing l s .units) ≡ some t → (o : Option Unit) → firstThat (isField t) (listing l s .units) ≡ o →
           valueOf o ≡ At start end → Chosen l s q start (end - start)
-      with-field t x none y z = let z : _≡_ {A = ℕ} 0 1 = cc in absurd (omega arith)
+      with-field t x none y z = clash cc
       with-field t x (some u) y z =
           let begins : start ≡ u .own = cc in
           let ends : end ≡ u .end = cc in
@@ -102,7 +102,7 @@ module _ (l : Layout) (s : List ℕ) (q : Query) where
 
       go : (o : Option Unit) → firstThat isAsked (listing l s .units) ≡ o → valueInside l s q (listing l s .units) o ≡ At start end →
           Chosen l s q start (end - start)
-      go none x z = let z : _≡_ {A = ℕ} 0 1 = cc inside-none in absurd (omega arith)
+      go none x z = clash (cc inside-none)
       go (some t) x z = with-field t x (firstThat (isField t) (listing l s .units)) refl (sym (inside-is t) ∙ z)
 
   lacks : valueIn l s q ≡ Missing → Lacks l s q
@@ -112,7 +112,7 @@ module _ (l : Layout) (s : List ℕ) (q : Query) where
     where
       go : (o : Option Unit) → firstThat (isField t) (listing l s .units) ≡ o → valueOf o ≡ Missing → None (FieldIn l s q t) (listing l s .units)
       go none x z = first-none (isField t) (FieldIn l s q t) (field-tells l s q t) (listing l s .units) x
-      go (some u) x z = let z : _≡_ {A = ℕ} 0 1 = cc in absurd (omega arith)
+      go (some u) x z = clash cc
 
 module _ (l : Layout) (s t : List ℕ) (q : Query) where
   pub named-one : lookupOf l s t q .number ≡ 0 → (lookupOf l s t q .which ≡ 1) ⊎ (lookupOf l s t q .which ≡ 2)
@@ -161,6 +161,6 @@ pub equal-first : (l : Layout) (s : List ℕ) (q : Query) → lookupOf l s s q .
 equal-first l s q = answered l s s q (λ r. r .which ≡ 2 → ⊥) (record {
   refused = λ n at some other z. omega arith;
   first = λ a e x z. omega arith;
-  second = λ a e x y z. let z : _≡_ {A = ℕ} 0 1 = cc in omega arith;
+  second = λ a e x y z. clash cc;
   neither = λ x y z. omega arith;
 })

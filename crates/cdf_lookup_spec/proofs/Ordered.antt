@@ -7,6 +7,7 @@ use mathlib.Core.Logic.{_⊎_, inl, inr}
 use native.Mathlib.Omega.{arith}
 use lib.ListN.{length, length-append}
 use Rattle.cdf_unit_table.specs.Ids.{template, temporaryKey, templateKey}
+use Rattle.cdf_unit_table.proofs.Bools.{clash}
 use Rattle.cdf_unit_prefix.specs.Layout.{Layout, prefixOf}
 use Rattle.cdf_unit_list.specs.declared.Unit.{Unit}
 use Rattle.cdf_grammar.specs.Content.{Spells}
@@ -80,7 +81,7 @@ module _ (l : Layout) where
   next-key : (t : Unit) (x : ℕ) (inner : Forest) → Spells (productionOf template .content) (ids inner) →
       x + length (encode l inner) ≤ t .end → KeyNext t (list l x inner)
   unfolding list ids
-  next-key t x none p h = let k = key-first [] p in let z : _≡_ {A = ℕ} 0 1 = cc (k .2) in absurd (omega arith)
+  next-key t x none p h = let k = key-first [] p in clash (cc (k .2))
   next-key t x (tree id action text inner rest) p h =
       let k = key-first (id ∷ ids rest) p in
       let same : id ≡ k .0 = cc (k .2) in

@@ -5,11 +5,10 @@ use mathlib.Core.Bool.{Bool, true, false, cond, _&&_, false≢true}
 use mathlib.Core.List.{List, [], _∷_}
 use mathlib.Core.Logic.{_⊎_, inl, inr}
 use mathlib.Core.Option.{Option, none, some}
-use native.Mathlib.Omega.{arith}
 use borrow.Author.Tests.{eqb-true, eq-eqb, lt-ltb, ltb-true}
 use lib.Dec.{eqb, ltb}
 use Rattle.cdf_unit_table.specs.Ids.{template, temporaryKey, templateKey, field}
-use Rattle.cdf_unit_table.proofs.Bools.{both, either}
+use Rattle.cdf_unit_table.proofs.Bools.{both, either, clash}
 use Rattle.cdf_unit_prefix.specs.Layout.{Layout}
 use Rattle.cdf_unit_list.specs.Units.{listing}
 use Rattle.cdf_unit_list.specs.declared.Unit.{Unit}
@@ -47,7 +46,7 @@ module _ (test : Unit → Bool) (P : Unit → Type 0) (w : Tells test P) where
   -- The first that passes is the first of which this holds.
   pub first-some : (us : List Unit) (u : Unit) → firstThat test us ≡ some u → First P u us
   unfolding firstThat
-  first-some [] u e = let z : _≡_ {A = ℕ} 0 1 = cc in absurd (omega arith)
+  first-some [] u e = clash cc
   first-some (v ∷ us) u e = go (test v) refl e (first-some us u)
     where
       go : (b : Bool) → test v ≡ b → cond b (some v) (firstThat test us) ≡ some u → (firstThat test us ≡ some u → First P u us) →
@@ -62,7 +61,7 @@ module _ (test : Unit → Bool) (P : Unit → Type 0) (w : Tells test P) where
     where
       go : (b : Bool) → test v ≡ b → cond b (some v) (firstThat test us) ≡ none → (firstThat test us ≡ none → None P us) →
           None P (v ∷ us)
-      go true x e more = let z : _≡_ {A = ℕ} 0 1 = cc in absurd (omega arith)
+      go true x e more = clash cc
       go false x e more = (fails v x, more e)
 
   pub some-first : {u : Unit} {us : List Unit} → First P u us → firstThat test us ≡ some u

@@ -1,8 +1,4 @@
-pub mod Counted
-pub mod Closings
-pub mod Entered
-pub mod Stepped
-pub mod Replies
 pub mod Passing
-pub mod Asking
+pub mod Keeping
+pub mod Answering
 pub mod Proved

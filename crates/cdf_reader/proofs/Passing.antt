@@ -1,41 +1,16 @@
--- Passing the last unit whole, by the parts of the struct.
-use Prim.Native.Nat.{ℕ, zero, suc, _-_, _≤_}
+-- When a place is passed, and the part that GET_STREAM takes.
+use Prim.Native.Nat.{ℕ, _-_, _≤_}
 use mathlib.Core.Path.{_≡_, refl}
 use mathlib.Core.Bool.{Bool, true, false, not, cond, _&&_}
 use mathlib.Core.List.{List}
 use native.Mathlib.Omega.{arith}
 use borrow.Author.Tests.{eq-eqb, ne-eqb}
-use lib.Dec.{eqb}
 use lib.ListN.{length}
-use Rattle.cdf_unit_table.specs.States.{nothing, skipped, opens}
 use Rattle.cdf_unit_prefix.specs.Layout.{Layout}
-use Rattle.cdf_unit_list.specs.Stack.{withState}
-use Rattle.cdf_unit_list.specs.declared.Open.{Open}
 use Rattle.cdf_reader_spec.specs.Place.{ReaderPlace, fits}
-use Rattle.cdf_reader_spec.specs.Calls.{refuse, untouched, skippedTop, passed, passing, isGroup, takeOf, partOf}
+use Rattle.cdf_reader_spec.specs.Calls.{refuse, moveTo, untouched, passed, passing, isGroup, takeOf, partOf}
 use Rattle.cdf_reader_spec.proofs.Fitting.{fitting}
 use Rattle.cdf_reader_spec.proofs.Replying.{take-is, part-is}
-use Rattle.cdf_reader_spec.specs.Slots.{openUnits, placeOf}
-use Rattle.cdf_reader.specs.View.{view}
-use Rattle.cdf_reader.specs.declared.Place.{Place}
-use Rattle.cdf_reader.proofs.Replies.{empty-is}
-
-pub untouched-is : (p : Place) → untouched (view p) ≡ (not (eqb (p .count) 0) && (p .fresh && not (eqb (nothing (p .last .id)) 0)))
-unfolding untouched opens
-untouched-is p = rw (empty-is p)
-
-skipped-top : (count : ℕ) (top o1 o2 o3 : Open) →
-    skippedTop (openUnits count top o1 o2 o3) ≡ openUnits count (withState top (skipped (top .state))) o1 o2 o3
-unfolding skippedTop openUnits
-skipped-top zero top o1 o2 o3 = refl
-skipped-top (suc k) top o1 o2 o3 = refl
-
--- The place past the last unit.
-pub passed-is : (p : Place) →
-    passed (view p)
-    ≡ placeOf (p .last .end) (p .count) (withState (p .top) (skipped (p .top .state))) (p .o1) (p .o2) (p .o3) (p .last) false
-unfolding passed
-passed-is p = rw (skipped-top (p .count) (p .top) (p .o1) (p .o2) (p .o3))
 
 module _ (l : Layout) (s : List ℕ) (v : ReaderPlace) where
   -- Only a place that fits is passed.
@@ -43,7 +18,7 @@ module _ (l : Layout) (s : List ℕ) (v : ReaderPlace) where
   unfolding passing
   passing-fits true e = go (fits l (length s) v) refl e
     where
-      go : (b : Bool) → fits l (length s) v ≡ b → cond (not b) (refuse 2 0 v) (refuse 0 0 (passed v)) .number ≡ 0 → b ≡ true
+      go : (b : Bool) → fits l (length s) v ≡ b → cond (not b) (refuse 2 0 v) (moveTo (passed v)) .number ≡ 0 → b ≡ true
       go true f e = refl
       go false f e = absurd (omega arith)
   passing-fits false e = absurd (omega arith)

@@ -1,5 +1,5 @@
 pub mod View
-pub mod Left
+pub mod Uses
+pub mod Cursors
 pub mod Words
 pub mod Claims
-pub mod Uses

@@ -28,7 +28,3 @@ bytesOf part s = take (part .size) (drop (part .start) s)
 abbrev pub noPlace : Place
 noPlace =
     record { position = 0; count = 0; top = noOpen; o1 = noOpen; o2 = noOpen; o3 = noOpen; last = noUnit; fresh = false }
-
--- An answer that hands out no unit.
-abbrev pub refusal : ℕ → ℕ → Place → Answer
-refusal number offset place = record { number = number; offset = offset; unit = noUnit; place = place }

@@ -1,28 +1,29 @@
-// The reader: a place goes in with each call and a new one comes back.
+// The reader: a place goes in with each call and a new one comes back. What a call does stands in the crates below, on the parts of
+// a place; here are the calls by their names.
 ghost use mathlib.Core.Path.{_≡_};
 ghost use Prim.Native.Nat.{_+_};
 ghost use denote.Ref.{ptr};
 ghost use Rattle.cdf_unit_prefix.specs.Layout.{layoutOf};
 ghost use Rattle.cdf_unit_prefix.specs.declared.Edition.the-variants.{First};
-ghost use Rattle.cdf_reader_spec.specs.Place.{fits};
 ghost use Rattle.cdf_reader_spec.specs.Calls.{firstOf, nextOf, skipOf, takeOf, previousOf, abnormalEnd, callOf};
 ghost use Rattle.cdf_reader_spec.specs.declared.Call.the-variants.{Previous};
+ghost use Rattle.cdf_reader_spec.specs.Closing.{closedAt};
 ghost use Rattle.cdf_reader.specs.View.{view, replyOf, partAt, bytesOf, noPlace};
-ghost use Rattle.cdf_reader.specs.Uses.{isStart, placeKept};
-use crate::nothing::no_open;
-use crate::nothing::no_place;
-use crate::nothing::refused;
-use cdf_reader_fit::fits;
+ghost use Rattle.cdf_reader.specs.Uses.{placeKept};
+ghost use Rattle.cdf_reader.specs.Cursors.{cursorOf, answerOf};
+use cdf_reader_close::close;
+use cdf_reader_cursor::Cursor;
+use cdf_reader_cursor::Outcome;
+use cdf_reader_cursor::first_as;
+use cdf_reader_cursor::moved;
+use cdf_reader_cursor::no_cursor;
 use cdf_reader_spec::Call;
-use cdf_unit_judge::Judged;
-use cdf_unit_judge::judge_root;
+use cdf_reader_step::call_at;
+use cdf_reader_step::next_at;
+pub use cdf_reader_use::is_start;
 use cdf_unit_list::Open;
 use cdf_unit_list::Unit;
 use cdf_unit_prefix::Edition;
-
-mod nothing;
-mod steps;
-mod uses;
 
 // Where a reader is: the position; how many units are open, `top` the innermost of them and `o1` to `o3` those around it, from the
 // outermost inwards; the last unit handed out, and whether that one may still be skipped. Which place of the format this is, its
@@ -46,92 +47,54 @@ pub struct Answer {
     pub place: Place,
 }
 
-// The open units that closing leaves: how many, and the innermost.
-struct Left {
-    count: usize,
-    top: Open,
-}
-
-// A start is the one call that needs no place.
-pub fn is_start(call: Call) -> bool
-    ensures { λ r. ⌜ r ≡ isStart call ⌝ }
+// The answer that an outcome is.
+fn answered(o: Outcome) -> Answer
+    ensures { λ r. ⌜ r ≡ answerOf o ⌝ }
 {
-    match call {
-        Call::Start => true,
-        Call::Next => false,
-        Call::Skip => false,
-        Call::GetStream => false,
-        Call::Previous => false,
+    let unit = o.unit;
+    let c = o.cursor;
+    let top = c.top;
+    let o1 = c.o1;
+    let o2 = c.o2;
+    let o3 = c.o3;
+    let last = c.last;
+    let place = Place {
+        position: c.position,
+        count: c.count,
+        top,
+        o1,
+        o2,
+        o3,
+        last,
+        fresh: c.fresh,
+    };
+    Answer {
+        number: o.number,
+        offset: o.offset,
+        unit,
+        place,
     }
 }
 
 impl Place {
-    // Whether the place could belong to n bytes.
-    fn is_fit(self, edition: Edition, n: usize) -> bool
-        ensures { λ r. ⌜ r ≡ fits (layoutOf edition) n (view self) ⌝ }
+    // The same parts.
+    fn cursor(self) -> Cursor
+        ensures { λ r. ⌜ r ≡ cursorOf self ⌝ }
     {
         let top = self.top;
         let o1 = self.o1;
         let o2 = self.o2;
         let o3 = self.o3;
         let last = self.last;
-        fits(
-            edition,
-            n,
-            self.position,
-            self.count,
+        Cursor {
+            position: self.position,
+            count: self.count,
             top,
             o1,
             o2,
             o3,
             last,
-            self.fresh,
-        )
-    }
-
-    // NEXT alone, for callers that need no other call: it is faster without the tests for which call it is.
-    pub(crate) fn next_as(self, edition: Edition, s: &[u8]) -> Answer
-        ensures is { λ r. ⌜ replyOf r ≡ nextOf (layoutOf edition) (now (s .entry)) (view self) ⌝ }
-        ensures kept { λ r. ⌜ ((r .number ≡ 0 → ⊥) → r .place ≡ self) ⌝ }
-    {
-        if self.count == 0 {
-            return refused(11, 0, self);
-        }
-        let n = s.len();
-        if !self.is_fit(edition, n) {
-            return refused(2, 0, self);
-        }
-        self.step(edition, s)
-    }
-
-    // Any call: 11, then 2, then what it does. So in this code a place is tested and a unit is read in one line, into which the
-    // compiler can put all of both.
-    pub(crate) fn call_as(self, edition: Edition, call: Call, s: &[u8]) -> Answer
-        ensures is { λ r. ⌜ replyOf r ≡ callOf (layoutOf edition) (now (s .entry)) (view self) call ⌝ }
-        ensures kept { λ r. ⌜ ((r .number ≡ 0 → ⊥) → r .place ≡ placeKept call self) ⌝ }
-        ensures again { λ r. ⌜ (call ≡ Previous → r .place ≡ self) ⌝ }
-    {
-        if !self.has_use(call) {
-            return refused(11, 0, self);
-        }
-        let n = s.len();
-        if !self.is_ready(edition, n, call) {
-            return refused(2, 0, self);
-        }
-        match call {
-            Call::Start => first_as(edition, s),
-            Call::Next => self.step(edition, s),
-            Call::Skip => self.passed(),
-            Call::GetStream => self.passed(),
-            Call::Previous => {
-                let unit = self.last;
-                Answer {
-                    number: 0,
-                    offset: 0,
-                    unit,
-                    place: self,
-                }
-            }
+            fresh: self.fresh,
         }
     }
 
@@ -139,8 +102,11 @@ impl Place {
     pub fn call(self, call: Call, s: &[u8]) -> Answer
         ensures is { λ r. ⌜ replyOf r ≡ callOf (layoutOf First) (now (s .entry)) (view self) call ⌝ }
         ensures kept { λ r. ⌜ ((r .number ≡ 0 → ⊥) → r .place ≡ placeKept call self) ⌝ }
+        ensures again { λ r. ⌜ (call ≡ Previous → r .place ≡ self) ⌝ }
     {
-        self.call_as(Edition::First, call, s)
+        let c = self.cursor();
+        let o = call_at(c, Edition::First, call, s);
+        answered(o)
     }
 
     // NEXT: closes what ends here, then reads the unit at the position. Numbers 11, 2, 10, 1 and 3 to 9.
@@ -148,7 +114,9 @@ impl Place {
         ensures is { λ r. ⌜ replyOf r ≡ nextOf (layoutOf First) (now (s .entry)) (view self) ⌝ }
         ensures kept { λ r. ⌜ ((r .number ≡ 0 → ⊥) → r .place ≡ self) ⌝ }
     {
-        self.next_as(Edition::First, s)
+        let c = self.cursor();
+        let o = next_at(c, Edition::First, s);
+        answered(o)
     }
 
     // SKIP: moves past the last unit, whatever it holds.
@@ -156,7 +124,7 @@ impl Place {
         ensures is { λ r. ⌜ replyOf r ≡ skipOf (layoutOf First) (now (s .entry)) (view self) ⌝ }
         ensures kept { λ r. ⌜ ((r .number ≡ 0 → ⊥) → r .place ≡ self) ⌝ }
     {
-        self.call_as(Edition::First, Call::Skip, s)
+        self.call(Call::Skip, s)
     }
 
     // GET_STREAM's number and place: as SKIP, for groups alone.
@@ -164,7 +132,7 @@ impl Place {
         ensures is { λ r. ⌜ replyOf r ≡ takeOf (layoutOf First) (now (s .entry)) (view self) ⌝ }
         ensures kept { λ r. ⌜ ((r .number ≡ 0 → ⊥) → r .place ≡ self) ⌝ }
     {
-        self.call_as(Edition::First, Call::GetStream, s)
+        self.call(Call::GetStream, s)
     }
 
     // PREVIOUS: hands out the last unit again.
@@ -172,7 +140,9 @@ impl Place {
         ensures is { λ r. ⌜ replyOf r ≡ previousOf (layoutOf First) (now (s .entry)) (view self) ⌝ }
         ensures kept { λ r. ⌜ r .place ≡ self ⌝ }
     {
-        self.call_as(Edition::First, Call::Previous, s)
+        let c = self.cursor();
+        let o = call_at(c, Edition::First, Call::Previous, s);
+        answered(o)
     }
 
     // ABNORMAL_END: gives the reading up.
@@ -180,57 +150,33 @@ impl Place {
         ensures is { λ r. ⌜ replyOf r ≡ abnormalEnd ⌝ }
         ensures cleared { λ r. ⌜ r .place ≡ noPlace ⌝ }
     {
-        let empty = no_place();
-        refused(0, 0, empty)
+        let empty = no_cursor();
+        let o = moved(empty);
+        answered(o)
     }
-}
 
-// The start of a stream of this edition: the root's rules, 3 to 9.
-fn first_as(edition: Edition, s: &[u8]) -> Answer
-    ensures is { λ r. ⌜ replyOf r ≡ firstOf (layoutOf edition) (now (s .entry)) ⌝ }
-    ensures kept { λ r. ⌜ ((r .number ≡ 0 → ⊥) → r .place ≡ noPlace) ⌝ }
-{
-    match judge_root(edition, s) {
-        Judged::Fault { number, offset } => {
-            let place = no_place();
-            refused(number, offset, place)
-        }
-        Judged::Found {
-            id,
-            action,
-            own,
-            length,
-            state,
-        } => {
-            let unit = Unit {
-                id,
-                action,
-                start: 0,
-                own,
-                end: length,
-            };
-            let top = Open {
-                state,
-                start: 0,
-                end: length,
-            };
-            let o = no_open();
-            let place = Place {
-                position: own,
-                count: 1,
-                top,
-                o1: o,
-                o2: o,
-                o3: o,
-                last: unit,
-                fresh: true,
-            };
-            Answer {
-                number: 0,
-                offset: 0,
-                unit,
-                place,
-            }
+    // The place once the complete units that end at its position are closed: what is open where a refused unit stands, for a tool that
+    // says so.
+    pub fn close_ended(self) -> Place
+        ensures { λ r. ⌜ view r ≡ closedAt (view self) ⌝ }
+    {
+        let fresh = self.fresh;
+        let top = self.top;
+        let o1 = self.o1;
+        let o2 = self.o2;
+        let o3 = self.o3;
+        let left = close(self.position, self.count, top, o1, o2, o3);
+        let inner = left.top;
+        let last = self.last;
+        Place {
+            position: self.position,
+            count: left.count,
+            top: inner,
+            o1,
+            o2,
+            o3,
+            last,
+            fresh,
         }
     }
 }
@@ -240,7 +186,8 @@ pub fn first(s: &[u8]) -> Answer
     ensures is { λ r. ⌜ replyOf r ≡ firstOf (layoutOf First) (now (s .entry)) ⌝ }
     ensures kept { λ r. ⌜ ((r .number ≡ 0 → ⊥) → r .place ≡ noPlace) ⌝ }
 {
-    first_as(Edition::First, s)
+    let o = first_as(Edition::First, s);
+    answered(o)
 }
 
 // GET_STREAM: the part of the lent stream that is the group, and where the number is not 0, the empty part at the front.

@@ -18,7 +18,8 @@ use Rattle.cdf_reader_plain.specs.Calls.{Told}
 use Rattle.cdf_reader_plain.specs.Runs.{readerRun}
 use Rattle.cdf_reader_plain.proofs.Equations.{telling, reader-none, reader-on}
 use Rattle.cdf_reader_numbers.specs.Numbers.{placeFrom, numbersOf, replyTo, partTo, Called}
-use Rattle.cdf_reader_c.specs.Replay.{knownCode, callBy, callsOf, ranOf, entryOf, entries, logAfter, entryFrom}
+use Rattle.cdf_reader_c.specs.Replay.{knownCode, callBy, callsOf, ranOf, entryOf, entries, logAfter}
+use Rattle.cdf_reader_c.specs.Entries.{entryFrom}
 
 -- One more entry,
 entries-more : (ts : List Told) (t : Told) → entries (ts ++ (t ∷ [])) ≡ entries ts ++ entryOf t
@@ -41,7 +42,7 @@ calls-unknown : (code : ℕ) (codes : List ℕ) → knownCode code ≡ false →
 unfolding callsOf
 calls-unknown code codes e = rw e
 
-calls-none : callsOf [] ≡ []
+pub calls-none : callsOf [] ≡ []
 unfolding callsOf
 calls-none = refl
 

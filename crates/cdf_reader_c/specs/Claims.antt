@@ -1,22 +1,36 @@
 -- Demand 3 of running code. The term of this record stands in proofs/Proved.
-use Prim.Native.Nat.{ℕ}
+use Prim.Native.Nat.{ℕ, suc, _*_, _≤_}
 use mathlib.Core.Path.{_≡_}
 use mathlib.Core.Bool.{false}
 use mathlib.Core.List.{List, [], _∷_}
-use lib.ListN.{length}
+use lib.ListN.{length, replicate}
 use Rattle.cdf_unit_prefix.specs.Layout.{layoutOf}
 use Rattle.cdf_unit_prefix.specs.declared.Edition.the-variants.{First}
 use Rattle.cdf_unit_list.specs.Units.{listing}
+use Rattle.cdf_unit_list.specs.Check.{checkOf}
+use Rattle.cdf_unit_list.specs.declared.Unit.{Unit}
 use Rattle.cdf_grammar.specs.Trees.{Forest}
 use Rattle.cdf_grammar.specs.Encoding.{Stream}
-use Rattle.cdf_reader_plain.specs.Runs.{plainRun, noState}
+use Rattle.cdf_reader_plain.specs.Calls.{Told}
+use Rattle.cdf_reader_plain.specs.Runs.{plainRun}
+use Rattle.cdf_reader_plain.specs.Nexts.{handingAll, everAfter, zeros}
 use Rattle.cdf_reader_c.specs.Replay.{callsOf, logAfter, tooShort, Replayed}
 
+-- A replay of these codes writes these answers: if the log has room, it returns 0, leaves them at the log's front, and tells how many.
+abbrev pub Writes : List ℕ → List ℕ → List Told → Type 0
+Writes s codes answers =
+    (before : List ℕ) → tooShort codes before ≡ false → (number : ℕ) (after answer : List ℕ) →
+    Replayed s codes before number after answer →
+    (number ≡ 0) × (after ≡ logAfter answers before) × (answer ≡ length answers ∷ [])
+
 pub record Claims : Type 0 where
-  -- A replay of a stream of the published grammar that begins with a start writes the plain reader's answers, if the log has room.
+  -- First half. Of a stream of the published grammar, begun with a start: the plain reader's answers over the unit list.
   pub replays : (s : List ℕ) (t : Forest) → Stream (layoutOf First) s t →
-      (codes before : List ℕ) → tooShort (1 ∷ codes) before ≡ false → (number : ℕ) (after answer : List ℕ) →
-      Replayed s (1 ∷ codes) before number after answer →
-      (number ≡ 0)
-      × (after ≡ logAfter (plainRun (listing (layoutOf First) s .units) noState (callsOf (1 ∷ codes))) before)
-      × (answer ≡ length (plainRun (listing (layoutOf First) s .units) noState (callsOf (1 ∷ codes))) ∷ [])
+      (first : Unit) × (rest : List Unit) × (listing (layoutOf First) s .units ≡ first ∷ rest)
+      × ((codes : List ℕ) → Writes s (1 ∷ codes) (plainRun first rest (callsOf codes)))
+  -- Second half. Of any bytes with a listed unit, a start and k NEXTs: the unit list, and after it for ever the end where the check
+  -- accepts, else the check's number and offset.
+  pub replays-nexts : (s : List ℕ) → (listing (layoutOf First) s .units ≡ [] → ⊥) → (k : ℕ) →
+      Writes s (1 ∷ replicate k 2) (handingAll (suc k) (listing (layoutOf First) s .units) (everAfter (checkOf (layoutOf First) s)))
+  -- Of any n bytes: at most n / 6 of these answers are 0.
+  pub replays-few : (s : List ℕ) (k : ℕ) → (answers : List Told) × Writes s (1 ∷ replicate k 2) answers × (zeros answers * 6 ≤ length s)

@@ -4,7 +4,7 @@ use mathlib.Core.Path.{_≡_}
 use mathlib.Core.Bool.{Bool, cond, _&&_}
 use mathlib.Core.List.{List, [], _∷_, _++_}
 use lib.Dec.{eqb, leb, ltb}
-use lib.ListN.{length, drop, getD}
+use lib.ListN.{length, drop}
 use Rattle.cdf_unit_prefix.specs.Layout.{layoutOf}
 use Rattle.cdf_unit_prefix.specs.declared.Edition.the-variants.{First}
 use Rattle.cdf_reader_spec.specs.Calls.{emptyPlace}
@@ -51,20 +51,6 @@ entries (t ∷ ts) = entryOf t ++ entries ts
 -- The log with these entries at its front; the rest stays.
 abbrev pub logAfter : List Told → List ℕ → List ℕ
 logAfter ts log = entries ts ++ drop (9 * length ts) log
-
--- An entry of the eight numbers of an answer.
-abbrev pub entryFrom : ℕ → List ℕ → List ℕ
-entryFrom number a =
-    number
-    ∷ getD a 0 0
-    ∷ getD a 6 0
-    ∷ getD a 7 0
-    ∷ getD a 1 0
-    ∷ getD a 2 0
-    ∷ getD a 3 0
-    ∷ getD a 4 0
-    ∷ getD a 5 0
-    ∷ []
 
 -- The log has no room for an entry of each call.
 abbrev pub tooShort : List ℕ → List ℕ → Bool

@@ -7,7 +7,8 @@ ghost use Rattle.cdf_reader_spec.specs.Calls.{noPart, abnormalEnd};
 ghost use Rattle.cdf_reader_spec.specs.declared.Call.the-variants.{Start, Next, Skip, GetStream, Previous};
 ghost use Rattle.cdf_reader.specs.View.{noPlace};
 ghost use Rattle.cdf_reader_numbers.specs.Numbers.{numbersOf, answerNumbers, Called};
-ghost use Rattle.cdf_reader_c.specs.Replay.{knownCode, callBy, entryFrom, ranOf, logAfter, Replayed};
+ghost use Rattle.cdf_reader_c.specs.Replay.{knownCode, callBy, ranOf, logAfter, Replayed};
+ghost use Rattle.cdf_reader_c.specs.Entries.{entryFrom};
 use cdf_reader_numbers::answer_to;
 use cdf_reader_spec::Call;
 
@@ -43,7 +44,7 @@ pub extern "C" fn cdf_get_stream(s: &[u8], place: &mut [u64; 20], answer: &mut [
     answer_to(Call::GetStream, s, place, answer)
 }
 
-// PREVIOUS: hands out the last unit again.
+// PREVIOUS: hands out the last unit again; the place stays as it is, in every number.
 #[no_mangle]
 pub extern "C" fn cdf_previous(s: &[u8], place: &mut [u64; 20], answer: &mut [u64; 8]) -> u64
     ensures { λ r. ⌜ Called Previous (now (s .entry)) (now (place .entry)) r (now (place .exit)) (now (answer .exit)) ⌝ }

@@ -1,18 +1,17 @@
 -- Places and answers as the numbers that cross to C.
-use Prim.Native.Nat.{ℕ, _-_}
+use Prim.Native.Nat.{ℕ}
 use mathlib.Core.Path.{_≡_}
-use mathlib.Core.Bool.{Bool, true, false, not, cond, _&&_}
+use mathlib.Core.Bool.{Bool, true, false, not, cond}
 use mathlib.Core.List.{List, [], _∷_}
 use lib.Dec.{eqb}
 use lib.ListN.{getD}
 use Rattle.cdf_unit_prefix.specs.Layout.{layoutOf}
 use Rattle.cdf_unit_prefix.specs.declared.Edition.the-variants.{First}
 use Rattle.cdf_unit_list.specs.declared.Open.{Open}
-use Rattle.cdf_reader_spec.specs.Calls.{Reply, Part, noPart, callOf, partTaken}
+use Rattle.cdf_reader_spec.specs.Calls.{Reply, Part, isStart, callOf, partTaken}
 use Rattle.cdf_reader_spec.specs.declared.Call.{Call}
 use Rattle.cdf_reader_spec.specs.declared.Call.the-variants.{Start, Next, Skip, GetStream, Previous}
 use Rattle.cdf_reader.specs.View.{view, noPlace}
-use Rattle.cdf_reader.specs.Uses.{isStart}
 use Rattle.cdf_reader.specs.declared.Place.{Place}
 
 -- The open unit whose state, start and end stand at these three entries.
@@ -83,21 +82,20 @@ partTo c s numbers = partTaken (layoutOf First) s (view (placeFrom numbers)) c
 abbrev pub numbersKept : Call → List ℕ → List ℕ
 numbersKept c numbers = cond (isStart c) (numbersOf noPlace) numbers
 
--- What a call leaves: its number, the answer's numbers, and the place's, which are the new place by its view; a number other than
--- 0 leaves them as they were.
+-- The call leaves the place's numbers as they are: PREVIOUS does so always, a start never, any other beside a number that is not 0.
+abbrev pub keeps : Call → ℕ → Bool
+keeps Start number = false
+keeps Next number = not (eqb number 0)
+keeps Skip number = not (eqb number 0)
+keeps GetStream number = not (eqb number 0)
+keeps Previous number = true
+
+-- What a call leaves: its number, the answer's numbers, and the place's, which are the new place by its view. Where the call does
+-- not keep those that were given, they are written of some struct with that view, the flag as 1 or 0.
 pub record Called (c : Call) (s before : List ℕ) (number : ℕ) (after answer : List ℕ) : Type 0 where
   pub told : number ≡ replyTo c s before .number
   pub answers : answer ≡ answerNumbers (replyTo c s before) (partTo c s before)
   pub moves : view (placeFrom after) ≡ replyTo c s before .place
   pub stays : (number ≡ 0 → ⊥) → after ≡ numbersKept c before
-
--- Of the calls only GET_STREAM takes a part, the last unit's bytes.
-abbrev pub isTake : Call → Bool
-isTake Start = false
-isTake Next = false
-isTake Skip = false
-isTake GetStream = true
-isTake Previous = false
-
-abbrev pub partBy : Call → ℕ → ℕ → ℕ → Part
-partBy c number from end = cond (isTake c && eqb number 0) (record { start = from; size = end - from }) noPart
+  pub again : keeps c number ≡ true → after ≡ before
+  pub written : keeps c number ≡ false → (q : Place) × (view q ≡ replyTo c s before .place) × (after ≡ numbersOf q)

@@ -1,14 +1,12 @@
 // The reader's calls on plain numbers, as they cross to C: a place is 20 of them and an answer 8.
 ghost use mathlib.Core.Path.{_≡_};
-ghost use mathlib.Core.Bool.{true, not, cond, _&&_};
+ghost use mathlib.Core.Bool.{true, cond};
 ghost use Prim.Native.Nat.{_≤_};
-ghost use lib.Dec.{eqb};
 ghost use Rattle.cdf_reader.specs.View.{replyOf};
-ghost use Rattle.cdf_reader.specs.Uses.{isStart};
-ghost use Rattle.cdf_reader_numbers.specs.Numbers.{placeFrom, numbersOf, answerNumbers, Called, isTake, partBy};
+ghost use Rattle.cdf_reader_numbers.specs.Numbers.{placeFrom, numbersOf, answerNumbers, keeps, Called};
+ghost use Rattle.cdf_reader_numbers.specs.Taking.{isTake, partBy};
 use cdf_reader::Answer;
 use cdf_reader::Place;
-use cdf_reader::is_start;
 use cdf_reader_spec::Call;
 use cdf_unit_list::Open;
 use cdf_unit_list::Unit;
@@ -148,15 +146,18 @@ fn part_by(call: Call, number: usize, start: usize, end: usize) -> Span
 
 // Whether the place's numbers stay as they were.
 fn is_kept(call: Call, number: usize) -> bool
-    ensures { λ r. ⌜ r ≡ (not (eqb number 0) && not (isStart call)) ⌝ }
+    ensures { λ r. ⌜ r ≡ keeps call number ⌝ }
 {
-    if number == 0 {
-        return false;
+    match call {
+        Call::Start => false,
+        Call::Next => number != 0,
+        Call::Skip => number != 0,
+        Call::GetStream => number != 0,
+        Call::Previous => true,
     }
-    !is_start(call)
 }
 
-// Any call: the number; the answer's numbers are written always, the place's where the number is 0, and by a start.
+// Any call: the number; the answer's numbers are written always, the place's unless they are kept.
 pub fn answer_to(call: Call, s: &[u8], place: &mut [u64; 20], answer: &mut [u64; 8]) -> u64
     ensures { λ r. ⌜ Called call (now (s .entry)) (now (place .entry)) r (now (place .exit)) (now (answer .exit)) ⌝ }
 {

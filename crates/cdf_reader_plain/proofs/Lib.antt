@@ -6,4 +6,6 @@ pub mod Answers
 pub mod Numbers
 pub mod Streams
 pub mod Reading
+pub mod Nexts
+pub mod Examples
 pub mod Proved

@@ -17,13 +17,14 @@ use Rattle.cdf_unit_list.specs.declared.Unit.{Unit}
 use Rattle.cdf_unit_list.specs.declared.Open.{Open}
 use Rattle.cdf_unit_list.proofs.Stepping.{step-closes}
 use Rattle.cdf_reader_spec.specs.Place.{ReaderPlace, isEmpty, every, isState, atLast, fits}
-use Rattle.cdf_reader_spec.specs.Calls.{Reply, refuse, stepped, nextOf, untouched, skippedTop, passed, passing, skipOf, isGroup, takeOf, partOf}
+use Rattle.cdf_reader_spec.specs.Calls.{Reply, refuse, moveTo, stepped, nextOf, untouched, skippedTop, passed, passing, skipOf, isGroup, takeOf, partOf}
 use Rattle.cdf_reader_spec.specs.Calls.{previousOf}
 use Rattle.cdf_reader_spec.proofs.Fitting.{fitting, fits-true}
 use Rattle.cdf_reader_spec.proofs.Opened.{kinds-states, chain-clauses}
 use Rattle.cdf_reader_spec.proofs.Replying.{passing-tests, skip-is, take-is, part-is, previous-tests}
 use Rattle.cdf_reader_runs.proofs.Around.{Around, lies, position-in, with-state, fitting-held}
 use Rattle.cdf_reader_runs.proofs.Replies.{next-is}
+use Rattle.cdf_reader_plain.specs.Claims.{Fits}
 
 -- The last unit ends where the innermost open one does, if it is that one.
 last-end : (position : ℕ) (o : Open) (os : List Open) (u : Unit) → atLast position (o ∷ os) u ≡ true → o .end ≡ u .end
@@ -92,30 +93,26 @@ unfolding untouched
 flag-on p e = both (p .fresh) _ (both (not (isEmpty p)) _ e .1) .0
 
 module _ (l : Layout) (s : List ℕ) where
-  -- If the number is 0, the place fits.
-  abbrev Fits : Reply → Type 0
-  Fits r = r .number ≡ 0 → fits l (length s) (r .place) ≡ true
-
-  -- So it is of what passes an untouched unit,
-  passing-fits : (p : ReaderPlace) (may : Bool) → (may ≡ true → untouched p ≡ true) → Fits (passing l s p may)
+  -- If the number is 0, the place fits: so it is of what passes an untouched unit,
+  passing-fits : (p : ReaderPlace) (may : Bool) → (may ≡ true → untouched p ≡ true) → Fits l s (passing l s p may)
   passing-fits p may only =
       rw passing-tests
-      (of-cond Fits (not may) (refuse 11 0 p) _ (λ e z. absurd (omega arith))
-      (λ e. of-cond Fits (not (fits l (length s) p)) (refuse 2 0 p) (refuse 0 0 (passed p)) (λ f z. absurd (omega arith))
+      (of-cond (Fits l s) (not may) (refuse 11 0 p) _ (λ e z. absurd (omega arith))
+      (λ e. of-cond (Fits l s) (not (fits l (length s) p)) (refuse 2 0 p) (moveTo (passed p)) (λ f z. absurd (omega arith))
       (λ f z. passed-fits l (length s) p (not-false (fits l (length s) p) f) (flag-on p (only (not-false may e))))))
 
-  pub skip-fits : (p : ReaderPlace) → Fits (skipOf l s p)
+  pub skip-fits : (p : ReaderPlace) → Fits l s (skipOf l s p)
   skip-fits p = rw skip-is (passing-fits p (untouched p) (λ e. e))
 
-  pub take-fits : (p : ReaderPlace) → Fits (takeOf l s p)
+  pub take-fits : (p : ReaderPlace) → Fits l s (takeOf l s p)
   take-fits p = rw take-is (passing-fits p (untouched p && isGroup (p .last .id)) (λ e. both (untouched p) _ e .0))
 
   -- and of PREVIOUS, which tests it.
-  pub previous-fits : (p : ReaderPlace) → Fits (previousOf l s p)
+  pub previous-fits : (p : ReaderPlace) → Fits l s (previousOf l s p)
   previous-fits p =
       rw previous-tests
-      (of-cond Fits (isEmpty p) (refuse 11 0 p) _ (λ e z. absurd (omega arith))
-      (λ e. of-cond Fits (not (fits l (length s) p)) (refuse 2 0 p) _ (λ f z. absurd (omega arith))
+      (of-cond (Fits l s) (isEmpty p) (refuse 11 0 p) _ (λ e z. absurd (omega arith))
+      (λ e. of-cond (Fits l s) (not (fits l (length s) p)) (refuse 2 0 p) _ (λ f z. absurd (omega arith))
       (λ f z. not-false (fits l (length s) p) f)))
 
   -- With no unit open a step is at the end.
@@ -144,7 +141,7 @@ module _ (l : Layout) (s : List ℕ) where
   skipped-root p o q =
       rw (skip-is, passing-tests)
       (of-cond Ended (not (untouched p)) (refuse 11 0 p) _ (λ e z. absurd (omega arith))
-      (λ e. of-cond Ended (not (fits l (length s) p)) (refuse 2 0 p) (refuse 0 0 (passed p)) (λ f z. absurd (omega arith))
+      (λ e. of-cond Ended (not (fits l (length s) p)) (refuse 2 0 p) (moveTo (passed p)) (λ f z. absurd (omega arith))
       (λ f z. passed-end p o q (not-false (fits l (length s) p) f) (flag-on p (not-false (untouched p) e)))))
 
 -- Other bytes, as many, are passed and taken alike.

@@ -1,8 +1,8 @@
 -- What a stream's bytes give the readers: a run of steps over the unit list, and each group in it a stream of its own.
 use Prim.Native.Nat.{ℕ, _-_, _≤_}
-use mathlib.Core.Path.{_≡_, refl, sym, ap}
+use mathlib.Core.Path.{_≡_, refl, sym, ap, _∙_}
 use mathlib.Core.Bool.{true}
-use mathlib.Core.List.{List, [], append-nil, cons≢nil}
+use mathlib.Core.List.{List, [], _∷_, append-nil, cons≢nil}
 use native.Mathlib.Omega.{arith}
 use lib.ListN.{length, take, drop, length-take, length-drop}
 use Rattle.cdf_unit_prefix.specs.Layout.{Layout, layoutOf}
@@ -18,32 +18,38 @@ use Rattle.cdf_grammar.proofs.Items.{EachUnit, Rooted, rooted}
 use Rattle.cdf_grammar.proofs.Proved.{stream-listing}
 use Rattle.cdf_reader_spec.specs.Calls.{isGroup}
 use Rattle.cdf_reader_spec.proofs.Replying.{start}
-use Rattle.cdf_reader_runs.proofs.Steps.{Run, listed}
+use Rattle.cdf_reader_runs.proofs.Steps.{Run, listed as run-listed}
 use Rattle.cdf_reader_plain.proofs.Groups.{group-root}
 
--- Of the unit list: it is a run of steps to the end, has a unit, and each unit's bytes are a tree's.
-pub record Readable (l : Layout) (s : List ℕ) : Type 0 where
-  pub run : Run l s (start l s) (listing l s .units) ended
-  pub some : listing l s .units ≡ [] → ⊥
-  pub each : EachUnit (Rooted l s) (listing l s .units)
+-- Of a unit list: it is the bytes' own, a run of steps to the end, and each unit's bytes are a tree's.
+pub record Readable (l : Layout) (s : List ℕ) (first : Unit) (rest : List Unit) : Type 0 where
+  pub listed : listing l s .units ≡ first ∷ rest
+  pub run : Run l s (start l s) (first ∷ rest) ended
+  pub each : EachUnit (Rooted l s) (first ∷ rest)
 
--- A tree with a root has a unit.
-some-unit : (l : Layout) (at : ℕ) (t : Forest) → Spells cdfDataStream (ids t) → list l at t ≡ [] → ⊥
+-- A tree with a root has a first unit.
+first-unit : (l : Layout) (at : ℕ) (t : Forest) → Spells cdfDataStream (ids t) →
+    (first : Unit) × (rest : List Unit) × (list l at t ≡ first ∷ rest)
 unfolding list ids
-some-unit l at none root e = cons≢nil (sym (root-agrees none .0 root .1))
-some-unit l at (tree id action text inner rest) root e = cons≢nil e
+first-unit l at none root = absurd (cons≢nil (sym (root-agrees none .0 root .1)))
+first-unit l at (tree id action text inner rest) root = (_, _, refl)
 
--- A stream's list is such.
-pub readable : (e : Edition) (s : List ℕ) (t : Forest) → Stream (layoutOf e) s t → Readable (layoutOf e) s
+-- So has a stream's list, which is such.
+pub readable : (e : Edition) (s : List ℕ) (t : Forest) → Stream (layoutOf e) s t →
+    (first : Unit) × (rest : List Unit) × Readable (layoutOf e) s first rest
 readable e s t p =
     let l = layoutOf e in
     let is = stream-listing e s t p in
-    let units : listing l s .units ≡ list l 0 t = ap (λ (x : Listing). x .units) is in
-    record {
-      run = rw (ap (λ (x : Listing). x .end) is) at (listed l s);
-      some = rw units (some-unit l 0 t (p .tree .root));
-      each = rw units (rooted l s t 0 [] (p .tree .conforms) (rw append-nil (sym (p .bytes))));
-    }
+    let has = first-unit l 0 t (p .tree .root) in
+    let listed : listing l s .units ≡ has .0 ∷ has .1 = ap (λ (x : Listing). x .units) is ∙ has .2 in (
+      has .0,
+      has .1,
+      record {
+        listed = listed;
+        run = rw (listed, ap (λ (x : Listing). x .end) is) at (run-listed l s);
+        each = rw (has .2) at (rooted l s t 0 [] (p .tree .conforms) (rw append-nil (sym (p .bytes))));
+      },
+    )
 
 -- The bytes of a group are a stream.
 pub group-stream : (l : Layout) (s : List ℕ) (u : Unit) → length s ≤ l .limit → Rooted l s u → isGroup (u .id) ≡ true →

@@ -10,9 +10,12 @@ pub record Told : Type 0 where
   pub part : Part
   pub unit : Unit
 
--- An answer that hands out a unit, and one that hands out nothing.
+-- An answer that hands out a unit, one with a part that is taken, and one with neither.
 abbrev pub handing : Unit → Told
 handing u = record { number = 0; offset = 0; part = noPart; unit = u }
+
+abbrev pub taking : Part → Told
+taking part = record { number = 0; offset = 0; part = part; unit = noUnit }
 
 abbrev pub saying : ℕ → Told
 saying n = record { number = n; offset = 0; part = noPart; unit = noUnit }

@@ -17,13 +17,10 @@ use Rattle.cdf_unit_list.specs.declared.Unit.{Unit}
 use Rattle.cdf_unit_list.specs.declared.Open.{Open}
 use Rattle.cdf_unit_list.proofs.Stepping.{fresh}
 use Rattle.cdf_reader_spec.specs.Place.{ReaderPlace, nested, positioned, atLast, fits}
+use Rattle.cdf_reader_spec.specs.Calls.{placeAt}
 use Rattle.cdf_reader_spec.specs.Tests.{under, chain}
 use Rattle.cdf_reader_spec.proofs.Fitting.{fitting, fits-true}
 use Rattle.cdf_reader_spec.proofs.Opened.{kinds-states, at-most-four, chain-clauses, clauses-chain}
-
--- The place in which a step leaves the reader that found a unit.
-abbrev pub placeAt : Unit → List Open → ℕ → ReaderPlace
-placeAt u os pos = record { position = pos; units = os; last = u; fresh = opens (u .id) }
 
 module _ (l : Layout) where
   -- The position lies in the innermost unit, past its prefix: the test as a fact, and back.

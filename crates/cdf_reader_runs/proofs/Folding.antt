@@ -1,80 +1,71 @@
--- A loop of a start and nexts that folds the units it is handed, turn by turn: the units still to come are those of a run of steps.
+-- A loop of a start and nexts that folds the units it is handed.
 use Prim.Native.Nat.{ℕ, _+_, _≤_}
-use mathlib.Core.Path.{_≡_, refl, _∙_}
-use mathlib.Core.List.{List, foldl}
+use mathlib.Core.Path.{_≡_, refl, ap}
+use mathlib.Core.List.{List, [], _∷_, foldl, reverseAux}
 use native.Mathlib.Omega.{arith}
 use borrow.Author.Tests.{ne-eqb}
 use lib.ListN.{length}
 use Rattle.cdf_unit_prefix.specs.Layout.{Layout, prefixOf}
 use Rattle.cdf_unit_list.specs.Units.{End, listing}
 use Rattle.cdf_unit_list.specs.Check.{answerOf, checkOf}
-use Rattle.cdf_unit_list.specs.Stack.{Step, step}
+use Rattle.cdf_unit_list.specs.Stack.{Step}
 use Rattle.cdf_unit_list.specs.declared.Unit.{Unit}
+use Rattle.cdf_unit_list.proofs.Proved.{proved}
 use Rattle.cdf_reader_spec.specs.Place.{ReaderPlace}
-use Rattle.cdf_reader_spec.specs.Calls.{Reply, emptyPlace, stepped, firstOf, nextOf}
-use Rattle.cdf_reader_spec.proofs.Fitting.{fitting}
-use Rattle.cdf_reader_spec.proofs.Replying.{start, first-is}
+use Rattle.cdf_reader_spec.specs.Calls.{Reply, stepped, firstOf, nextOf}
 use Rattle.cdf_reader_runs.specs.Runs.{afterwards}
-use Rattle.cdf_reader_runs.proofs.Around.{placeAt}
-use Rattle.cdf_reader_runs.proofs.Keeps.{Keeps, first-keeps, next-keeps}
-use Rattle.cdf_reader_runs.proofs.Replies.{next-is}
+use Rattle.cdf_reader_runs.proofs.Looping.{Stops, at-end, at-fault}
+use Rattle.cdf_reader_runs.proofs.Looping as loop
 use Rattle.cdf_reader_runs.proofs.Readings.{check-is}
-use Rattle.cdf_reader_runs.proofs.Steps.{Run, ends, breaks, hands, listed}
+
+-- The number and the offset of the step that ends the list.
+module _ (l : Layout) (s : List ℕ) where
+  ends-number : {x : Step} {e : End} → Stops l s x e → listing l s .end ≡ e → (p : ReaderPlace) →
+      (stepped p x .number ≡ afterwards (checkOf l s) .number) × (stepped p x .offset ≡ afterwards (checkOf l s) .offset)
+  unfolding stepped afterwards answerOf
+  ends-number at-end q p = (rw (check-is l s, q), rw (check-is l s, q))
+  ends-number (at-fault {n} {at}) q p =
+      let some = ne-eqb n 0 (λ z. omega (arith, proved .numbered l s q)) in (rw (check-is l s, q, some), rw (check-is l s, q, some))
 
 module _ {A : Type 0} (fold : A → Unit → A) (l : Layout) (s : List ℕ) (none : A) where
-  -- The answer in hand is that of a step from which these units come, and h has those before.
+  -- The fold of units, the last one first.
+  abbrev gathered : List Unit → A
+  gathered [] = none
+  gathered (u ∷ us) = fold (gathered us) u
+
+  gather-on : (before us : List Unit) → foldl fold none (reverseAux before us) ≡ foldl fold (gathered before) us
+  gather-on [] us = refl
+  gather-on (u ∷ before) us = gather-on before (u ∷ us)
+
+  -- The answer in hand, and the fold of the units before it.
   pub record Going (a : Reply) (h : A) : Type 0 where
-    pub place : ReaderPlace
-    pub taken : Step
-    pub units : List Unit
-    pub is : a ≡ stepped place taken
-    pub run : Run l s taken units (listing l s .end)
-    pub keeps : Keeps l s taken
-    pub folded : foldl fold none (listing l s .units) ≡ foldl fold h units
+    pub before : List Unit
+    pub going : loop.Going l s before a
+    pub has : h ≡ gathered before
 
   pub begun : (a : Reply) → a ≡ firstOf l s → Going a none
-  begun a e = record {
-    place = emptyPlace;
-    taken = start l s;
-    units = listing l s .units;
-    is = e ∙ first-is l s;
-    run = listed l s;
-    keeps = first-keeps l s;
-    folded = refl;
-  }
+  begun a e = record { before = []; going = loop.begun l s a e; has = refl }
 
-  -- A unit was handed out: it lies in the bytes, it is folded in, and the next answer is that of the next step.
+  -- The fold of all units, from this one on.
+  pub folded : (a : Reply) (h : A) (g : Going a h) → foldl fold none (listing l s .units) ≡ foldl fold h (g .going .units)
+  folded a h g = rw (g .going .all, g .has) (gather-on (g .before) (g .going .units))
+
+  -- A unit was handed out: it lies in the bytes, and it is folded in.
   pub record Turn (a : Reply) (h : A) : Type 0 where
     pub own : a .unit .start + prefixOf l ≤ a .unit .own
     pub end : a .unit .own ≤ a .unit .end
     pub within : a .unit .end ≤ length s
     pub next : Going (nextOf l s (a .place)) (fold h (a .unit))
 
-  turn-from : {x : Step} {us : List Unit} {e : End} → Run l s x us e → e ≡ listing l s .end → Keeps l s x → (p : ReaderPlace) (h : A) →
-      foldl fold none (listing l s .units) ≡ foldl fold h us → stepped p x .number ≡ 0 → Turn (stepped p x) h
-  unfolding stepped
-  turn-from ends q k p h f z = absurd (omega arith)
-  turn-from breaks q k p h f z = absurd (k z)
-  turn-from (hands {u = u} {os = os} {pos = pos} {us = us} run) q k p h f z =
-      let next = placeAt u os pos in
-      let fit = fitting l (length s) next k in
-      record {
-        own = fit .own;
-        end = fit .end;
-        within = fit .within;
-        next = record {
-          place = next;
-          taken = step l s os pos;
-          units = us;
-          is = next-is l s next k;
-          run = rw (← q) run;
-          keeps = next-keeps l s next k;
-          folded = f;
-        };
-      }
-
   pub turned : (a : Reply) (h : A) → Going a h → a .number ≡ 0 → Turn a h
-  turned a h g z = rw (g .is) (turn-from (g .run) refl (g .keeps) (g .place) h (g .folded) (rw (← g .is) z))
+  turned a h g z =
+      let t = loop.turned l s (g .before) a (g .going) z in
+      record {
+        own = t .own;
+        end = t .end;
+        within = t .within;
+        next = record { before = a .unit ∷ g .before; going = t .next; has = ap (λ (x : A). fold x (a .unit)) (g .has) };
+      }
 
   -- No unit was handed out: what there is of the units is all, and the number is that of the end.
   pub record Over (a : Reply) (h : A) : Type 0 where
@@ -82,13 +73,8 @@ module _ {A : Type 0} (fold : A → Unit → A) (l : Layout) (s : List ℕ) (non
     pub number : a .number ≡ afterwards (checkOf l s) .number
     pub offset : a .offset ≡ afterwards (checkOf l s) .offset
 
-  over-from : {x : Step} {us : List Unit} {n : End} → Run l s x us n → n ≡ listing l s .end → Keeps l s x → (p : ReaderPlace) (h : A) →
-      foldl fold none (listing l s .units) ≡ foldl fold h us → (stepped p x .number ≡ 0 → ⊥) → Over (stepped p x) h
-  unfolding stepped afterwards answerOf
-  over-from ends q k p h f some = record { all = f; number = rw (check-is l s, ← q); offset = rw (check-is l s, ← q) }
-  over-from (breaks {n} {at}) q k p h f some =
-      record { all = f; number = rw (check-is l s, ← q, ne-eqb n 0 k); offset = rw (check-is l s, ← q, ne-eqb n 0 k) }
-  over-from (hands run) q k p h f some = absurd (some refl)
-
   pub over : (a : Reply) (h : A) → Going a h → (a .number ≡ 0 → ⊥) → Over a h
-  over a h g some = rw (g .is) (over-from (g .run) refl (g .keeps) (g .place) h (g .folded) (rw (← g .is) some))
+  over a h g some =
+      let o = loop.over l s (g .before) a (g .going) some in
+      let end = rw (← o .is) at (ends-number l s (o .stops) refl (o .place)) in
+      record { all = rw (o .all, g .has) (gather-on (g .before) []); number = end .0; offset = end .1 }

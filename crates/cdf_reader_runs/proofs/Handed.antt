@@ -7,7 +7,7 @@ use native.Mathlib.Nat.{mul-le-mul-right}
 use borrow.Author.Tests.{eqb-true, eqb-false}
 use lib.Dec.{eqb}
 use lib.ListN.{length}
-use Rattle.cdf_unit_table.proofs.Bools.{of-cond}
+use Rattle.cdf_unit_table.proofs.Bools.{of-cond, clash}
 use Rattle.cdf_unit_prefix.specs.Layout.{Layout, prefixOf}
 use Rattle.cdf_unit_list.specs.Units.{End, listing}
 use Rattle.cdf_unit_list.specs.Stack.{Step}
@@ -46,7 +46,7 @@ module _ (l : Layout) (s : List ℕ) where
   unfolding stepped
   start-refused ends none keeps = record { number = λ z. omega arith; place = refl }
   start-refused breaks none keeps = record { number = keeps; place = refl }
-  start-refused (hands run) none keeps = let z : _≡_ {A = ℕ} 0 1 = cc in absurd (omega arith)
+  start-refused (hands run) none keeps = clash cc
 
   all-refused : listing l s .units ≡ [] → (k : ℕ) → Refused (reading l s k)
   all-refused none zero = rw (reading-first l s, first-is l s) (start-refused (listed l s) none (first-keeps l s))
@@ -58,7 +58,7 @@ module _ (l : Layout) (s : List ℕ) where
   unfolding outcome
   zero-below [] e k z = absurd (all-refused e k .number z)
   zero-below (u ∷ us) e k z =
-      let r = reads l s (λ none. let x : _≡_ {A = ℕ} 0 1 = cc in omega arith) k in
+      let r = reads l s (λ none. clash cc) k in
       due-zero (afterwards (checkOf l s)) (afterwards-none (checkOf l s)) (u ∷ us) k (rw e at (sym (ap (λ t. t .number) r) ∙ z))
 
   -- If only answers before the m-th hand out a unit, at most m do.

@@ -19,8 +19,9 @@ use Rattle.cdf_unit_list.specs.declared.Open.{Open}
 use Rattle.cdf_unit_list.proofs.Entering.{unitOf as unitAt}
 use Rattle.cdf_unit_list.proofs.Stepping.{fresh}
 use Rattle.cdf_reader_spec.specs.Place.{ReaderPlace, nested, fits}
+use Rattle.cdf_reader_spec.specs.Calls.{placeAt}
 use Rattle.cdf_reader_spec.specs.Tests.{chain}
-use Rattle.cdf_reader_runs.proofs.Around.{placeAt, Around, Held, OfClosing, Enters, lies, position-in, chain-on, with-state}
+use Rattle.cdf_reader_runs.proofs.Around.{Around, Held, OfClosing, Enters, lies, position-in, chain-on, with-state}
 use Rattle.cdf_reader_runs.proofs.Around.{close-held, fitting-held, enters-fit}
 
 module _ (l : Layout) (s : List ℕ) where

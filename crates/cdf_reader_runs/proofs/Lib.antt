@@ -5,5 +5,6 @@ pub mod Steps
 pub mod Readings
 pub mod Handed
 pub mod Further
+pub mod Looping
 pub mod Folding
 pub mod Proved

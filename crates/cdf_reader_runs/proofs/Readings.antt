@@ -10,9 +10,8 @@ use Rattle.cdf_unit_list.specs.Stack.{Step, done, refused}
 use Rattle.cdf_unit_list.specs.Check.{answerOf, answer, checkOf}
 use Rattle.cdf_unit_list.specs.declared.Unit.{Unit}
 use Rattle.cdf_reader_spec.specs.Place.{ReaderPlace}
-use Rattle.cdf_reader_spec.specs.Calls.{Reply, emptyPlace, stepped, firstOf, nextOf}
+use Rattle.cdf_reader_spec.specs.Calls.{Reply, emptyPlace, placeAt, stepped, firstOf, nextOf}
 use Rattle.cdf_reader_runs.specs.Runs.{reading, outcome, afterwards, due}
-use Rattle.cdf_reader_runs.proofs.Around.{placeAt}
 use Rattle.cdf_reader_runs.proofs.Keeps.{Keeps, first-keeps, next-keeps}
 use Rattle.cdf_reader_spec.proofs.Replying.{first-is}
 use Rattle.cdf_reader_runs.proofs.Replies.{next-is}
@@ -29,7 +28,7 @@ module _ (l : Layout) (s : List ℕ) where
   reading-next k = refl
 
   -- The k-th answer after this one, from its place.
-  onward : Reply → ℕ → Reply
+  unfoldable pub onward : Reply → ℕ → Reply
   onward r zero = r
   onward r (suc k) = onward (nextOf l s (r .place)) k
 
@@ -38,7 +37,7 @@ module _ (l : Layout) (s : List ℕ) where
   onward-next r zero = refl
   onward-next r (suc k) = onward-next (nextOf l s (r .place)) k
 
-  reading-onward : (k : ℕ) → reading l s k ≡ onward (firstOf l s) k
+  pub reading-onward : (k : ℕ) → reading l s k ≡ onward (firstOf l s) k
   unfolding onward
   reading-onward zero = reading-first
   reading-onward (suc k) = rw (reading-next k, reading-onward k) (onward-next (firstOf l s) k)

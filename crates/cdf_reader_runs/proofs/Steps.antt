@@ -4,9 +4,11 @@ use mathlib.Core.Path.{_≡_, refl}
 use mathlib.Core.List.{List, [], _∷_, reverseAux}
 use native.Mathlib.Omega.{arith}
 use lib.ListN.{length}
+use Rattle.cdf_unit_table.proofs.Bools.{clash}
 use Rattle.cdf_unit_prefix.specs.Layout.{Layout}
 use Rattle.cdf_unit_list.specs.Units.{End, unfinished, ended, fault, Listing, listing}
-use Rattle.cdf_unit_list.specs.Stack.{Step, done, refused, found, step, stepsFrom}
+use Rattle.cdf_unit_list.specs.Stack.{Step, done, refused, found, step}
+use Rattle.cdf_unit_list.specs.Steps.{stepsFrom}
 use Rattle.cdf_unit_list.specs.declared.Unit.{Unit}
 use Rattle.cdf_unit_list.specs.declared.Open.{Open}
 use Rattle.cdf_unit_list.proofs.Proved.{proved}
@@ -47,7 +49,7 @@ module _ (l : Layout) (s : List ℕ) where
   pub ended-run : (f : ℕ) (x : Step) (before : List Unit) → stepsFrom f l s x before .end ≡ ended →
       (us : List Unit) × (stepsFrom f l s x before .units ≡ reverseAux before us) × Run x us ended
   ended-run f x before e =
-      let r = lists f x before (λ z. let q : _≡_ {A = ℕ} 0 1 = cc in omega arith) in
+      let r = lists f x before (λ z. clash cc) in
       (r .units, r .all, rw e at (r .run))
 
   -- and a run is what steps list that have fuel for it.

@@ -9,8 +9,9 @@ use Rattle.cdf_unit_prefix.specs.Layout.{Layout}
 use Rattle.cdf_unit_judge.specs.Judge.{judgeOf}
 use Rattle.cdf_unit_list.specs.Stack.{Step, entered, step}
 use Rattle.cdf_reader_spec.specs.Place.{ReaderPlace, isEmpty, fits}
-use Rattle.cdf_reader_spec.specs.Calls.{emptyPlace, refuse, stepped, firstOf, nextOf, previousOf}
-use Rattle.cdf_reader_spec.specs.Calls.{untouched, passed, passing, skipOf, isGroup, takeOf, partOf}
+use Rattle.cdf_reader_spec.specs.Calls.{emptyPlace, refuse, moveTo, give, stepped, firstOf, nextOf, previousOf}
+use Rattle.cdf_reader_spec.specs.Calls.{untouched, passed, passing, skipOf, isGroup, takeOf, partOf, callOf}
+use Rattle.cdf_reader_spec.specs.declared.Call.the-variants.{Start, Next, Skip, GetStream, Previous}
 
 -- The step that a start takes.
 abbrev pub start : Layout → List ℕ → Step
@@ -33,13 +34,13 @@ module _ (l : Layout) (s : List ℕ) where
   pub previous-tests : (p : ReaderPlace) →
       previousOf l s p
       ≡ cond (isEmpty p) (refuse 11 0 p)
-      (cond (not (fits l (length s) p)) (refuse 2 0 p) (record { number = 0; offset = 0; unit = p .last; place = p }))
+      (cond (not (fits l (length s) p)) (refuse 2 0 p) (give (p .last) p))
   unfolding previousOf
   previous-tests p = refl
 
   -- What passes the last unit is two tests.
   pub passing-tests : (p : ReaderPlace) (may : Bool) →
-      passing l s p may ≡ cond (not may) (refuse 11 0 p) (cond (not (fits l (length s) p)) (refuse 2 0 p) (refuse 0 0 (passed p)))
+      passing l s p may ≡ cond (not may) (refuse 11 0 p) (cond (not (fits l (length s) p)) (refuse 2 0 p) (moveTo (passed p)))
   unfolding passing
   passing-tests p may = refl
 
@@ -57,3 +58,25 @@ module _ (l : Layout) (s : List ℕ) where
       (record { start = 0; size = 0 })
   unfolding partOf
   part-is p = refl
+
+  -- Each call by its name.
+  module _ (p : ReaderPlace) where
+    pub start-named : callOf l s p Start ≡ firstOf l s
+    unfolding callOf
+    start-named = refl
+
+    pub next-named : callOf l s p Next ≡ nextOf l s p
+    unfolding callOf
+    next-named = refl
+
+    pub skip-named : callOf l s p Skip ≡ skipOf l s p
+    unfolding callOf
+    skip-named = refl
+
+    pub take-named : callOf l s p GetStream ≡ takeOf l s p
+    unfolding callOf
+    take-named = refl
+
+    pub previous-named : callOf l s p Previous ≡ previousOf l s p
+    unfolding callOf
+    previous-named = refl

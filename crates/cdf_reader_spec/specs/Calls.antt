@@ -30,20 +30,27 @@ noUnit = record { id = 0; action = 0; start = 0; own = 0; end = 0 }
 abbrev pub emptyPlace : ReaderPlace
 emptyPlace = record { position = 0; units = []; last = noUnit; fresh = false }
 
+-- A rule that is broken: its number and offset, no unit, and the place that goes with them.
 abbrev pub refuse : ℕ → ℕ → ReaderPlace → Reply
 refuse n at p = record { number = n; offset = at; unit = noUnit; place = p }
 
--- What a step from a place comes to. At the end: 1. A rule that is broken: its number and offset. A unit: it is handed out, is
--- the last one, and may be skipped if it admits others. `p` is the place that goes with any number but 0.
+-- Success without a unit, and with one: 0 and the place that the call leads to.
+abbrev pub moveTo : ReaderPlace → Reply
+moveTo p = record { number = 0; offset = 0; unit = noUnit; place = p }
+
+abbrev pub give : Unit → ReaderPlace → Reply
+give u p = record { number = 0; offset = 0; unit = u; place = p }
+
+-- The place in which a start or NEXT leaves a reader: the unit handed out is the last one and may be skipped if it admits others.
+abbrev pub placeAt : Unit → List Open → ℕ → ReaderPlace
+placeAt u os pos = record { position = pos; units = os; last = u; fresh = opens (u .id) }
+
+-- What a step from a place comes to. At the end: 1. A rule that is broken: its number and offset. A unit: it is handed out. `p`
+-- is the place that goes with any number but 0.
 unfoldable pub stepped : ReaderPlace → Step → Reply
 stepped p done = refuse 1 0 p
 stepped p (refused n at) = refuse n at p
-stepped p (found u os pos) = record {
-  number = 0;
-  offset = 0;
-  unit = u;
-  place = record { position = pos; units = os; last = u; fresh = opens (u .id) };
-}
+stepped p (found u os pos) = give u (placeAt u os pos)
 
 -- FIRST: the root's rules, 3 to 9 in order.
 unfoldable pub firstOf : Layout → List ℕ → Reply
@@ -60,7 +67,7 @@ nextOf l s p =
 
 -- ABNORMAL_END: 0 and the empty place, whatever the place.
 abbrev pub abnormalEnd : Reply
-abnormalEnd = refuse 0 0 emptyPlace
+abnormalEnd = moveTo emptyPlace
 
 -- The last unit may be taken up as a whole: it was not entered, skipped or taken, and admits others.
 unfoldable pub untouched : ReaderPlace → Bool
@@ -81,7 +88,7 @@ passed p = record { position = p .last .end; units = skippedTop (p .units); last
 unfoldable pub passing : Layout → List ℕ → ReaderPlace → Bool → Reply
 unfolding fits passed
 passing l s p may =
-    cond (not may) (refuse 11 0 p) (cond (not (fits l (length s) p)) (refuse 2 0 p) (refuse 0 0 (passed p)))
+    cond (not may) (refuse 11 0 p) (cond (not (fits l (length s) p)) (refuse 2 0 p) (moveTo (passed p)))
 
 -- SKIP: 11 where there is nothing to skip, 2 for a place that does not fit; else 0 and the place past the unit.
 unfoldable pub skipOf : Layout → List ℕ → ReaderPlace → Reply
@@ -115,9 +122,17 @@ unfoldable pub previousOf : Layout → List ℕ → ReaderPlace → Reply
 unfolding isEmpty fits
 previousOf l s p =
     cond (isEmpty p) (refuse 11 0 p)
-    (cond (not (fits l (length s) p)) (refuse 2 0 p) (record { number = 0; offset = 0; unit = p .last; place = p }))
+    (cond (not (fits l (length s) p)) (refuse 2 0 p) (give (p .last) p))
 
--- Each call by its name, on a place; a start needs none.
+-- A start is the one call that needs no place.
+abbrev pub isStart : Call → Bool
+isStart Start = true
+isStart Next = false
+isStart Skip = false
+isStart GetStream = false
+isStart Previous = false
+
+-- Each call by its name, on a place.
 unfoldable pub callOf : Layout → List ℕ → ReaderPlace → Call → Reply
 unfolding firstOf nextOf skipOf takeOf previousOf
 callOf l s p Start = firstOf l s

@@ -14,8 +14,8 @@ use Rattle.cdf_reader_spec.specs.Place.{ReaderPlace, clauses}
 abbrev pub unit : ℕ → ℕ → ℕ → ℕ → Unit
 unit id from own end = record { id = id; action = 1; start = from; own = own; end = end }
 
-abbrev pub opened : ℕ → ℕ → ℕ → Open
-opened state from end = record { state = state; start = from; end = end }
+abbrev inState : ℕ → ℕ → ℕ → Open
+inState state from end = record { state = state; start = from; end = end }
 
 abbrev pub place : ℕ → List Open → Unit → Bool → ReaderPlace
 place position units last fresh = record { position = position; units = units; last = last; fresh = fresh }
@@ -23,10 +23,10 @@ place position units last fresh = record { position = position; units = units; l
 -- K2 has 46 bytes; its group starts at 0, its template at 6 with its own end at 19 and its end at 46. The flag is on just after the
 -- template was handed out; `aside` is a last unit that has nothing to do with the open ones.
 abbrev pub group : Open
-group = opened erData 0 46
+group = inState erData 0 46
 
 abbrev pub inner : Open
-inner = opened templateNew 6 46
+inner = inState templateNew 6 46
 
 abbrev pub aside : Unit
 aside = unit 0 0 6 6
@@ -35,17 +35,17 @@ abbrev pub nearMisses : List ReaderPlace
 nearMisses =
     -- right: just after the template, after its key, and at its end
     place 19 (inner ∷ group ∷ []) (unit template 6 19 46) true
-    ∷ place 29 (opened templateKeys 6 46 ∷ group ∷ []) aside false
-    ∷ place 46 (opened templateKeys 6 46 ∷ group ∷ []) (unit 0 40 46 46) false
+    ∷ place 29 (inState templateKeys 6 46 ∷ group ∷ []) aside false
+    ∷ place 46 (inState templateKeys 6 46 ∷ group ∷ []) (unit 0 40 46 46) false
     -- the kinds: a root that is none, a kind that is not admitted
-    ∷ place 19 (opened templateNew 0 46 ∷ []) aside false
-    ∷ place 19 (opened callNew 6 46 ∷ group ∷ []) aside false
+    ∷ place 19 (inState templateNew 0 46 ∷ []) aside false
+    ∷ place 19 (inState callNew 6 46 ∷ group ∷ []) aside false
     -- the starts: not at 0, less than a prefix further
-    ∷ place 19 (inner ∷ opened erData 1 46 ∷ []) aside false
-    ∷ place 19 (opened templateNew 5 46 ∷ group ∷ []) aside false
+    ∷ place 19 (inner ∷ inState erData 1 46 ∷ []) aside false
+    ∷ place 19 (inState templateNew 5 46 ∷ group ∷ []) aside false
     -- the ends: not the last byte, after the unit outside
-    ∷ place 19 (opened templateNew 6 45 ∷ opened erData 0 45 ∷ []) aside false
-    ∷ place 19 (opened templateNew 6 47 ∷ group ∷ []) aside false
+    ∷ place 19 (inState templateNew 6 45 ∷ inState erData 0 45 ∷ []) aside false
+    ∷ place 19 (inState templateNew 6 47 ∷ group ∷ []) aside false
     -- the position: in the prefix of the innermost, past its end
     ∷ place 11 (inner ∷ group ∷ []) aside false
     ∷ place 47 (inner ∷ group ∷ []) aside false
@@ -57,7 +57,7 @@ nearMisses =
     ∷ place 19 (inner ∷ group ∷ []) (unit erGroup 6 19 46) true
     ∷ place 19 (inner ∷ group ∷ []) (unit template 7 19 46) true
     ∷ place 19 (inner ∷ group ∷ []) (unit template 6 19 45) true
-    ∷ place 19 (opened templateKeys 6 46 ∷ group ∷ []) (unit template 6 19 46) true
+    ∷ place 19 (inState templateKeys 6 46 ∷ group ∷ []) (unit template 6 19 46) true
     ∷ place 20 (inner ∷ group ∷ []) (unit template 6 19 46) true
     ∷ []
 

@@ -11,20 +11,33 @@ use Rattle.cdf_reader_spec.specs.Place.{ReaderPlace}
 abbrev pub noOpen : Open
 noOpen = record { state = 0; start = 0; end = 0 }
 
--- The unit at a level, from 1, the outermost, if it is not the innermost.
+-- A struct that holds the innermost of some things by itself and up to three around it by their level, from 1, the outermost; `none`
+-- stands where it has no room. The one at a level, if it is not the innermost.
+abbrev pub slotOf : {A : Type 0} → A → A → A → A → ℕ → A
+slotOf none o1 o2 o3 k = cond (eqb k 1) o1 (cond (eqb k 2) o2 (cond (eqb k 3) o3 none))
+
+-- Those at the levels from k outwards.
+unfoldable pub aroundOf : {A : Type 0} → A → A → A → A → ℕ → List A
+aroundOf none o1 o2 o3 zero = []
+aroundOf none o1 o2 o3 (suc k) = slotOf none o1 o2 o3 (suc k) ∷ aroundOf none o1 o2 o3 k
+
+-- So many, the innermost first.
+unfoldable pub heldOf : {A : Type 0} → A → ℕ → A → A → A → A → List A
+unfolding aroundOf
+heldOf none zero top o1 o2 o3 = []
+heldOf none (suc k) top o1 o2 o3 = top ∷ aroundOf none o1 o2 o3 k
+
+-- The same of open units. Who unfolds the last sees the others too.
 abbrev pub slot : Open → Open → Open → ℕ → Open
-slot o1 o2 o3 k = cond (eqb k 1) o1 (cond (eqb k 2) o2 (cond (eqb k 3) o3 noOpen))
+slot o1 o2 o3 k = slotOf noOpen o1 o2 o3 k
 
--- The units at the levels from k outwards.
 unfoldable pub around : Open → Open → Open → ℕ → List Open
-around o1 o2 o3 zero = []
-around o1 o2 o3 (suc k) = slot o1 o2 o3 (suc k) ∷ around o1 o2 o3 k
+unfolding aroundOf
+around o1 o2 o3 k = aroundOf noOpen o1 o2 o3 k
 
--- So many open units, the innermost first.
 unfoldable pub openUnits : ℕ → Open → Open → Open → Open → List Open
-unfolding around
-openUnits zero top o1 o2 o3 = []
-openUnits (suc k) top o1 o2 o3 = top ∷ around o1 o2 o3 k
+unfolding around heldOf
+openUnits count top o1 o2 o3 = heldOf noOpen count top o1 o2 o3
 
 abbrev pub placeOf : ℕ → ℕ → Open → Open → Open → Open → Unit → Bool → ReaderPlace
 placeOf position count top o1 o2 o3 last fresh =

@@ -11,6 +11,7 @@ use lib.ListN.{length}
 use types.Run.{OneOf}
 use Rattle.cdf_unit_table.specs.Ids.{call, parameter, template, temporaryKey, templateKey, field, entityKey, relationKey, line}
 use Rattle.cdf_unit_table.proofs.Match.{each}
+use Rattle.cdf_unit_table.proofs.Bools.{clash}
 use Rattle.cdf_unit_data.specs.Data.{nameOf, valueFrom, valueAfter, numbersOf, dataBy, ownData}
 use Rattle.cdf_unit_data.specs.Claims.{ValueAt, Alone, Leading}
 use Rattle.cdf_unit_data.specs.declared.Own.the-variants.{Taken, Broken}
@@ -22,8 +23,8 @@ Fails b P = (b ≡ false) ↔ P
 -- What is broken if a test fails names its one byte.
 broken-if : (b : Bool) (P : Type 0) (t j k : ℕ) → Fails b P → (cond b (Taken t) (Broken j) ≡ Broken k) ↔ (P × (k ≡ j))
 broken-if true P t j k w = (
-  (λ e. let z : _≡_ {A = ℕ} 0 1 = cc in absurd (omega arith)),
-  (λ p. let e = w .1 (p .0) in let z : _≡_ {A = ℕ} 0 1 = cc in absurd (omega arith)),
+  (λ e. clash cc),
+  (λ p. let e = w .1 (p .0) in clash cc),
 )
 broken-if false P t j k w = ((λ e. (w .0 refl, cc)), (λ p. rw (p .1)))
 

@@ -9,7 +9,7 @@ use native.Mathlib.Omega.{arith}
 use borrow.Author.Tests.{leb-true, eqb-true, eqb-false, eq-eqb}
 use lib.Dec.{leb, eqb}
 use lib.ListN.{length, take, replicate, length-append, length-take, length-replicate}
-use Rattle.cdf_unit_table.proofs.Bools.{both}
+use Rattle.cdf_unit_table.proofs.Bools.{both, clash}
 use Rattle.cdf_unit_data.specs.Data.{letter, nameByte, nameRun, nameFront, spelled, nameOf}
 use Rattle.cdf_unit_data.specs.Claims.{Agree, Named, lettered}
 use Rattle.cdf_unit_data.specs.declared.Own.the-variants.{Taken, Broken}
@@ -30,7 +30,7 @@ run-agrees : (n : ℕ) (x y : List ℕ) → n ≤ length x → nameRun (take n x
 unfolding nameRun
 run-agrees zero x y few h e = refl
 run-agrees (suc n) [] y few h e = absurd (omega arith)
-run-agrees (suc n) (b ∷ x) [] few h e = let z : _≡_ {A = ℕ} 0 1 = cc in absurd (omega arith)
+run-agrees (suc n) (b ∷ x) [] few h e = clash cc
 run-agrees (suc n) (b ∷ x) (c ∷ y) few h e =
     let r = nameRun (take n x) in
     let same : c ≡ b = cc in
@@ -42,7 +42,7 @@ front-agrees : (n : ℕ) (x y : List ℕ) → n ≤ length x → nameFront (take
 unfolding nameFront
 front-agrees zero x y few h e = refl
 front-agrees (suc n) [] y few h e = absurd (omega arith)
-front-agrees (suc n) (b ∷ x) [] few h e = let z : _≡_ {A = ℕ} 0 1 = cc in absurd (omega arith)
+front-agrees (suc n) (b ∷ x) [] few h e = clash cc
 front-agrees (suc n) (b ∷ x) (c ∷ y) few h e =
     let r = nameRun (take n x) in
     let same : c ≡ b = cc in
@@ -97,7 +97,7 @@ broken count s k e = go (counts count (length s)) refl e
     front = nameFront (take count s)
 
     spell : (b : Bool) → eqb front count ≡ b → cond b (Taken (1 + count)) (Broken (1 + front)) ≡ Broken k → (k ≡ suc front) × (front < count)
-    spell true q e = let z : _≡_ {A = ℕ} 0 1 = cc in absurd (omega arith)
+    spell true q e = clash cc
     spell false q e =
         let same : 1 + front ≡ k = cc in (omega arith, omega (arith, eqb-false front count q, front-short count s))
 
@@ -107,7 +107,7 @@ broken count s k e = go (counts count (length s)) refl e
     go false q e = inl (q, cc)
 
 -- A right name has a right count, and all its bytes may stand there.
-named : (count : ℕ) (s : List ℕ) → Named (count ∷ s) → (counts count (length s) ≡ true) × (nameFront (take count s) ≡ count)
+pub named : (count : ℕ) (s : List ℕ) → Named (count ∷ s) → (counts count (length s) ≡ true) × (nameFront (take count s) ≡ count)
 unfolding nameOf spelled
 named count s (k, e) = go (counts count (length s)) refl e
   where
@@ -120,12 +120,12 @@ named count s (k, e) = go (counts count (length s)) refl e
       where
         spell : (b : Bool) → eqb front count ≡ b → cond b (Taken (1 + count)) (Broken (1 + front)) ≡ Taken k → front ≡ count
         spell true q e = eqb-true front count q
-        spell false q e = let z : _≡_ {A = ℕ} 0 1 = cc in absurd (omega arith)
-    go false q e = let z : _≡_ {A = ℕ} 0 1 = cc in absurd (omega arith)
+        spell false q e = clash cc
+    go false q e = clash cc
 
 pub offends : (s : List ℕ) (k : ℕ) → nameOf s ≡ Broken k → (t : List ℕ) → Agree (suc k) s t → Named t → ⊥
 unfolding nameOf
-offends [] k e [] agree right = let e = right .1 in let z : _≡_ {A = ℕ} 0 1 = cc in omega arith
+offends [] k e [] agree right = let e = right .1 in clash cc
 offends [] k e (c ∷ t) agree right = omega (arith, agree .0)
 offends (count ∷ s) k e [] agree right = omega (arith, agree .0)
 offends (count ∷ s) k e (c ∷ t) agree right =
@@ -145,7 +145,7 @@ offends (count ∷ s) k e (c ∷ t) agree right =
 
 pub mends : (s : List ℕ) (k : ℕ) → nameOf s ≡ Broken (suc k) → Agree (suc k) s (lettered (suc k) s) × Named (lettered (suc k) s)
 unfolding nameOf spelled
-mends [] k e = let z : _≡_ {A = ℕ} 0 1 = cc in absurd (omega arith)
+mends [] k e = clash cc
 mends (count ∷ s) k e = by-count (broken count s (suc k) e)
   where
     by-count : ((counts count (length s) ≡ false) × (suc k ≡ 0)) ⊎ Bad count s (suc k) →

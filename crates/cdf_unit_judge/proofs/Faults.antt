@@ -23,7 +23,7 @@ use Rattle.cdf_unit_table.proofs.Bools.{of-cond}
 use Rattle.cdf_unit_judge.proofs.Placed.{headed, fault-fits}
 use Rattle.cdf_unit_judge.proofs.Stages.{root-whole}
 
-abbrev OfHeader : Header → Type 0
+abbrev pub OfHeader : Header → Type 0
 OfHeader (Stop n) = (3 ≤ n) × (n ≤ 6)
 OfHeader (Prefix id action len) = record {}
 
@@ -41,7 +41,7 @@ OfJudged l root s (Fault n k) = Told l root s n k
 OfJudged l root s (Found id action own len state) = record {}
 
 module _ (l : Layout) (root : Bool) (s : List ℕ) where
-  of-head : OfHeader (headOf l root s)
+  pub of-head : OfHeader (headOf l root s)
   unfolding headOf
   of-head =
       of-cond OfHeader (ltb (length s) (prefixOf l)) (Stop 3) _ (λ e. omega arith)

@@ -20,7 +20,7 @@ use Rattle.cdf_unit_prefix.specs.declared.Header.the-variants.{Stop, Prefix}
 use Rattle.cdf_unit_judge.specs.declared.Body.{Body}
 use Rattle.cdf_unit_judge.specs.declared.Body.the-variants.{Action, Data, Whole}
 use Rattle.cdf_unit_judge.specs.declared.Judged.the-variants.{Fault, Found}
-use Rattle.cdf_unit_table.proofs.Bools.{both, past}
+use Rattle.cdf_unit_table.proofs.Bools.{both, past, clash}
 use Rattle.cdf_unit_data.proofs.Taken.{taken-fits, broken-fits}
 
 pub record Placed (l : Layout) (root : Bool) (state : ℕ) (s : List ℕ) (id action own len next : ℕ) : Type 0 where
@@ -52,7 +52,7 @@ fitting l true n len e =
     let same = eqb-true len n (w .0) in
     record { high = omega arith; whole = λ r. same; short = λ r. leb-true len (l .limit) (w .1) }
 fitting l false n len e =
-    let nested : false ≡ true → ⊥ = λ r. let z : _≡_ {A = ℕ} 0 1 = cc in omega arith in
+    let nested : false ≡ true → ⊥ = λ r. clash cc in
     record { high = leb-true len n e; whole = λ r. absurd (nested r); short = λ r. absurd (nested r) }
 
 fits : (l : Layout) (root : Bool) (n len : ℕ) → Fitting l root n len → lengthFits l root n len ≡ true
@@ -93,27 +93,27 @@ headed l root s id action len e0 =
     }
   where
     stop : (n : ℕ) → Stop n ≡ Prefix id action len → ⊥
-    stop n e = let z : _≡_ {A = ℕ} 0 1 = cc in omega arith
+    stop n e = clash cc
 
 pub offends : (id action : ℕ) (t : List ℕ) (k : ℕ) → bodyOf id action t ≡ Data k → ownData id t ≡ Broken k
 unfolding bodyOf dataBody
 offends id action t k e =
-    own (ownData id t) (past (not (actionAllowed id action)) Action _ (λ e. let z : _≡_ {A = ℕ} 0 1 = cc in omega arith) e .1)
+    own (ownData id t) (past (not (actionAllowed id action)) Action _ (λ e. clash cc) e .1)
   where
     own : (x : Own) → dataBody x ≡ Data k → x ≡ Broken k
-    own (Taken j) e = let z : _≡_ {A = ℕ} 0 1 = cc in absurd (omega arith)
+    own (Taken j) e = clash cc
     own (Broken j) e = cc
 
 held : (id action : ℕ) (t : List ℕ) (k : ℕ) → bodyOf id action t ≡ Whole k →
     (actionAllowed id action ≡ true) × (ownData id t ≡ Taken k)
 unfolding bodyOf dataBody
 held id action t k e =
-    let w = past (not (actionAllowed id action)) Action _ (λ e. let z : _≡_ {A = ℕ} 0 1 = cc in omega arith) e in
+    let w = past (not (actionAllowed id action)) Action _ (λ e. clash cc) e in
     (not-false (actionAllowed id action) (w .0), own (ownData id t) (w .1))
   where
     own : (x : Own) → dataBody x ≡ Whole k → x ≡ Taken k
     own (Taken j) e = cc
-    own (Broken j) e = let z : _≡_ {A = ℕ} 0 1 = cc in absurd (omega arith)
+    own (Broken j) e = clash cc
 
 pub body-fits : (id action : ℕ) (t : List ℕ) (k : ℕ) → bodyOf id action t ≡ Whole k → k ≤ length t
 body-fits id action t k e = taken-fits id t k (held id action t k e .1)
@@ -151,17 +151,17 @@ module _ (l : Layout) (root : Bool) (state : ℕ) (s : List ℕ) where
   by-head : (h : Header) {id action own len next : ℕ} → headOf l root s ≡ h →
       judgeHead l (admits root state) s h ≡ Found id action own len next → Placed l root state s id action own len next
   unfolding judgeHead foundBy
-  by-head (Stop n) q e = let z : _≡_ {A = ℕ} 0 1 = cc in absurd (omega arith)
+  by-head (Stop n) q e = clash cc
   by-head (Prefix i a n) {id} {action} {own} {len} {next} q e =
-      let w = past (eqb (admits root state i) 0) (Fault 7 0) _ (λ e. let z : _≡_ {A = ℕ} 0 1 = cc in omega arith) e in
+      let w = past (eqb (admits root state i) 0) (Fault 7 0) _ (λ e. clash cc) e in
       by-body (bodyOf i a (take (n - prefixOf l) (drop (prefixOf l) s))) (w .1)
       (λ k. found i a n k (headed l root s i a n q) (eqb-false _ 0 (w .0)))
     where
       by-body : (c : Body) → foundBy l i a n (admits root state i) c ≡ Found id action own len next →
           ((k : ℕ) → c ≡ Whole k → Placed l root state s i a (prefixOf l + k) n (admits root state i)) →
           Placed l root state s id action own len next
-      by-body Action e facts = let z : _≡_ {A = ℕ} 0 1 = cc in absurd (omega arith)
-      by-body (Data k) e facts = let z : _≡_ {A = ℕ} 0 1 = cc in absurd (omega arith)
+      by-body Action e facts = clash cc
+      by-body (Data k) e facts = clash cc
       by-body (Whole k) e facts =
           let ei : i ≡ id = cc in
           let ea : a ≡ action = cc in

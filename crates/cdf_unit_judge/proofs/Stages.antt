@@ -22,6 +22,7 @@ use Rattle.cdf_unit_judge.specs.declared.Judged.the-variants.{Fault, Fou
 use Rattle.cdf_unit_judge.proofs.Placed.{headed, offends}
 use Rattle.cdf_unit_table.proofs.Match.{each, among}
 use Rattle.cdf_unit_table.proofs.Rows.{admits-root, root-kind, root-opens}
+use Rattle.cdf_unit_table.proofs.Bools.{clash}
 
 -- h is what the prefix is found to say.
 module _ (l : Layout) (root : Bool) (s : List ℕ) (h : Header) (head : h ≡ headOf l root s) where
@@ -43,12 +44,11 @@ module _ (l : Layout) (root : Bool) (s : List ℕ) (h : Header) (head : h ≡ he
       unfolding judgeHead
       refused z = rw (e, ← may, eq-eqb next 0 z) at by-head
 
-      -- c is what the bytes after the prefix, which has p bytes, are found to be.
-      pub admitted : (next ≡ 0 → ⊥) → (p : ℕ) → p ≡ prefixOf l → (c : Body) →
-          c ≡ bodyOf id action (take (len - p) (drop p s)) → {d : Body} → c ≡ d →
-          foundBy l id action len next d ≡ judgeOf l root state s
+      -- The prefix has p bytes.
+      pub admitted : (next ≡ 0 → ⊥) → (p : ℕ) → p ≡ prefixOf l →
+          foundBy l id action len next (bodyOf id action (take (len - p) (drop p s))) ≡ judgeOf l root state s
       unfolding judgeHead
-      admitted some p q c x y = rw (← y, x, q) (rw (e, ← may, ne-eqb next 0 some) at by-head)
+      admitted some p q = rw q (rw (e, ← may, ne-eqb next 0 some) at by-head)
 
 -- A root has the action none and no own data.
 record Root (id : ℕ) : Type 0 where
@@ -72,8 +72,7 @@ pub root-whole : (root : Bool) (state id action : ℕ) (t : List ℕ) {k : ℕ} 
 root-whole false state id action t some e = refl
 root-whole true state id action t {k} some e =
     let z : Taken 0 ≡ Broken k = sym (root-is id (root-kind state id some) .own t) ∙ offends id action t k e in
-    let z : _≡_ {A = ℕ} 0 1 = cc in
-    absurd (omega arith)
+    clash cc
 
 module _ (l : Layout) (s : List ℕ) (h : Header) (head : h ≡ headOf l true s) {id action len : ℕ} (e : h ≡ Prefix id action len) where
   pub root-other : rootKind id ≡ false → Fault 7 0 ≡ judgeOf l true 0 s
@@ -83,7 +82,7 @@ module _ (l : Layout) (s : List ℕ) (h : Header) (head : h ≡ headOf l true s)
   root-body : rootKind id ≡ true → {d : Body} → bodyOf id action (take (len - prefixOf l) (drop (prefixOf l) s)) ≡ d →
       foundBy l id action len (nothing id) d ≡ judgeOf l true 0 s
   root-body k q =
-      admitted l true s h head 0 e (nothing id) (sym (admits-root 0 id k)) (root-opens id k) (prefixOf l) refl _ refl q
+      rw (← q) (admitted l true s h head 0 e (nothing id) (sym (admits-root 0 id k)) (root-opens id k) (prefixOf l) refl)
 
   pub root-acts : rootKind id ≡ true → (action ≡ 0 → ⊥) → Fault 8 0 ≡ judgeOf l true 0 s
   unfolding bodyOf foundBy

@@ -2,7 +2,7 @@
 ghost use mathlib.Core.Path.{_≡_};
 ghost use mathlib.Core.Bool.{true, false};
 ghost use Rattle.cdf_unit_prefix.specs.Layout.{layoutOf};
-ghost use Rattle.cdf_unit_judge.specs.Judge.{bodyOf, judgeOf};
+ghost use Rattle.cdf_unit_judge.specs.Judge.{bodyOf, foundBy, judgeOf};
 use cdf_unit_data::Own;
 use cdf_unit_data::own_data;
 use cdf_unit_prefix::Edition;
@@ -52,6 +52,44 @@ pub fn judge_body(id: usize, action: usize, s: &[u8]) -> Body
     }
 }
 
+// What comes after the admission: rules 8 and 9 on the bytes after the prefix, and the unit of this id, action and length, if it
+// keeps them. `next` is the state that the enclosing unit is then in, by whatever table it was admitted.
+pub fn judge_admitted(
+    edition: Edition,
+    id: usize,
+    action: usize,
+    length: usize,
+    next: usize,
+    s: &[u8],
+) -> Judged
+    ensures { λ r. ⌜ r ≡ foundBy (layoutOf edition) id action length next (bodyOf id action (now (s .entry))) ⌝ }
+{
+    let p = prefix(edition);
+    match judge_body(id, action, s) {
+        Body::Action => Judged::Fault {
+            number: 8,
+            offset: 0,
+        },
+        Body::Data(k) => {
+            let bad = p + k;
+            Judged::Fault {
+                number: 9,
+                offset: bad,
+            }
+        }
+        Body::Whole(k) => {
+            let own = p + k;
+            Judged::Found {
+                id,
+                action,
+                own,
+                length,
+                state: next,
+            }
+        }
+    }
+}
+
 // Rules 3 to 9 for a unit nested in one that is in `state`.
 pub fn judge(edition: Edition, state: usize, s: &[u8]) -> Judged
     ensures { λ r. ⌜ r ≡ judgeOf (layoutOf edition) false state (now (s .entry)) ⌝ }
@@ -70,29 +108,7 @@ pub fn judge(edition: Edition, state: usize, s: &[u8]) -> Judged
                 };
             }
             let p = prefix(edition);
-            match judge_body(id, action, &s[p..length]) {
-                Body::Action => Judged::Fault {
-                    number: 8,
-                    offset: 0,
-                },
-                Body::Data(k) => {
-                    let bad = p + k;
-                    Judged::Fault {
-                        number: 9,
-                        offset: bad,
-                    }
-                }
-                Body::Whole(k) => {
-                    let own = p + k;
-                    Judged::Found {
-                        id,
-                        action,
-                        own,
-                        length,
-                        state: next,
-                    }
-                }
-            }
+            judge_admitted(edition, id, action, length, next, &s[p..length])
         }
     }
 }

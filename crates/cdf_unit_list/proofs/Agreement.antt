@@ -12,7 +12,7 @@ use Rattle.cdf_unit_judge.specs.Judge.{judgeOf}
 use Rattle.cdf_unit_list.specs.Units.{after, parents, openAt, stateOf, Next, whole, broken, listed, unitAt, within}
 use Rattle.cdf_unit_list.specs.Units.{orElse, nextAt, next, goOn, listFrom, listBy}
 use Rattle.cdf_unit_list.specs.Stack.{Closing, incomplete, left, close, Step, done, refused, found, entered, withState, stepIn, step}
-use Rattle.cdf_unit_list.specs.Stack.{stepsFrom, steps}
+use Rattle.cdf_unit_list.specs.Steps.{stepsFrom, steps}
 use Rattle.cdf_unit_list.specs.declared.Unit.{Unit}
 use Rattle.cdf_unit_list.specs.declared.Open.{Open}
 use Rattle.cdf_unit_judge.specs.declared.Judged.{Judged}

@@ -6,6 +6,7 @@ use Prim.Native.Nat.{ℕ, zero, suc, _+_, _*_}
 use native.Mathlib.Omega.{arith}
 use native.Mathlib.Nat.{le-mul-of-pos-right}
 use lib.ListN.{length, length-reverse}
+use Rattle.cdf_unit_table.proofs.Bools.{clash}
 use Rattle.cdf_unit_prefix.specs.Layout.{Layout, prefixOf}
 use Rattle.cdf_unit_judge.specs.Judge.{judgeOf}
 use Rattle.cdf_unit_list.specs.Units.{unfinished, goOn, listFrom, listBy, Next, whole, broken, listed, next}
@@ -24,8 +25,8 @@ spent (suc fuel) l s first us e = go (next l s first us) e (λ v. spent fuel l s
         ((v : Unit) → listFrom fuel l s first (v ∷ us) .end ≡ unfinished →
         length (listFrom fuel l s first (v ∷ us) .units) ≡ fuel + length (v ∷ us)) →
         length (goOn (listFrom fuel l s first) us n .units) ≡ suc fuel + length us
-    go whole e more = let z : _≡_ {A = ℕ} 0 1 = cc in absurd (omega arith)
-    go (broken k at) e more = let z : _≡_ {A = ℕ} 0 1 = cc in absurd (omega arith)
+    go whole e more = clash cc
+    go (broken k at) e more = clash cc
     go (listed v) e more = omega (arith, more v e)
 
 pub finishes : (l : Layout) (s : List ℕ) (root : Bool) (state : ℕ) → listBy l s (judgeOf l root state s) .end ≡ unfinished → ⊥

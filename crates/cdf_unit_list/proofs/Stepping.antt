@@ -9,10 +9,11 @@ use borrow.Author.Tests.{eq-eqb, ne-eqb}
 use lib.ListN.{length, take, drop}
 use Rattle.cdf_unit_prefix.specs.Layout.{Layout}
 use Rattle.cdf_unit_table.specs.States.{opens, nothing, complete}
+use Rattle.cdf_unit_table.proofs.Bools.{clash}
 use Rattle.cdf_unit_judge.specs.Judge.{judgeOf}
 use Rattle.cdf_unit_list.specs.Units.{after, ended, listing}
 use Rattle.cdf_unit_list.specs.Stack.{incomplete, close, Step, refused, found, opened, entered, withState, stepIn, step}
-use Rattle.cdf_unit_list.specs.Stack.{stepsFrom, steps}
+use Rattle.cdf_unit_list.specs.Steps.{stepsFrom, steps}
 use Rattle.cdf_unit_list.specs.declared.Unit.{Unit}
 use Rattle.cdf_unit_list.specs.declared.Open.{Open}
 use Rattle.cdf_unit_judge.specs.declared.Judged.the-variants.{Fault, Found}
@@ -53,12 +54,12 @@ module _ (l : Layout) (s : List ℕ) where
   -- Steps that are refused, or out of fuel, do not come to the end.
   pub refused-never : (f n at : ℕ) (us : List Unit) → stepsFrom f l s (refused n at) us .end ≡ ended → ⊥
   unfolding stepsFrom
-  refused-never zero n at us q = let z : _≡_ {A = ℕ} 0 1 = cc in omega arith
-  refused-never (suc f) n at us q = let z : _≡_ {A = ℕ} 0 1 = cc in omega arith
+  refused-never zero n at us q = clash cc
+  refused-never (suc f) n at us q = clash cc
 
   pub spent-never : (x : Step) (us : List Unit) → stepsFrom 0 l s x us .end ≡ ended → ⊥
   unfolding stepsFrom
-  spent-never x us q = let z : _≡_ {A = ℕ} 0 1 = cc in omega arith
+  spent-never x us q = clash cc
 
   pub listing-steps : listing l s ≡ stepsFrom (suc (length s)) l s (entered 0 (λ state. []) (judgeOf l true 0 s)) []
   unfolding listing steps

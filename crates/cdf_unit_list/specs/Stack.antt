@@ -1,15 +1,15 @@
 -- The open units as a stack, the innermost first, and one step: what a reader keeps instead of the units listed so far.
 -- `step` is what NEXT does, and it stands here for the reader's contract, so this file belongs to the trusted reading. The
 -- claims are about the unit list; a law (proofs/Agreement) says that the steps give that list.
-use Prim.Native.Nat.{ℕ, zero, suc, _+_, _-_}
+use Prim.Native.Nat.{ℕ, _+_, _-_}
 use mathlib.Core.Bool.{false, cond}
-use mathlib.Core.List.{List, [], _∷_, reverse}
-use lib.ListN.{length, take, drop}
+use mathlib.Core.List.{List, [], _∷_}
+use lib.ListN.{take, drop}
 use lib.Dec.{eqb}
 use Rattle.cdf_unit_prefix.specs.Layout.{Layout}
 use Rattle.cdf_unit_table.specs.States.{opens, nothing, complete}
 use Rattle.cdf_unit_judge.specs.Judge.{judgeOf}
-use Rattle.cdf_unit_list.specs.Units.{after, Listing, unfinished, ended, fault}
+use Rattle.cdf_unit_list.specs.Units.{after}
 use Rattle.cdf_unit_list.specs.declared.Unit.{Unit}
 use Rattle.cdf_unit_list.specs.declared.Open.{Open}
 use Rattle.cdf_unit_judge.specs.declared.Judged.{Judged}
@@ -58,15 +58,3 @@ stepIn l s pos (left (o ∷ os)) =
 unfoldable pub step : Layout → List ℕ → List Open → ℕ → Step
 unfolding stepIn close
 step l s os pos = stepIn l s pos (close os pos)
-
--- From a step and the units so far, the last one first.
-unfoldable pub stepsFrom : ℕ → Layout → List ℕ → Step → List Unit → Listing
-unfolding step
-stepsFrom zero l s x us = record { units = reverse us; end = unfinished }
-stepsFrom (suc f) l s done us = record { units = reverse us; end = ended }
-stepsFrom (suc f) l s (refused n at) us = record { units = reverse us; end = fault n at }
-stepsFrom (suc f) l s (found u os pos) us = stepsFrom f l s (step l s os pos) (u ∷ us)
-
-unfoldable pub steps : Layout → List ℕ → Judged → Listing
-unfolding stepsFrom entered
-steps l s first = stepsFrom (suc (length s)) l s (entered 0 (λ state. []) first) []

@@ -1,12 +1,13 @@
 -- Tests that antt computes, and what they tell: at each element of a list, and at each number below a bound.
-use Prim.Native.Nat.{ℕ, zero, suc, _<_, _≤_}
+use Prim.Native.Nat.{ℕ, zero, suc, _/_, _%_, _^_, _<_, _≤_}
 use mathlib.Core.Path.{_≡_, refl, sym, subst}
 use mathlib.Core.Bool.{Bool, true, false, _&&_, _||_, Bool·beq}
 use mathlib.Core.List.{List, [], _∷_}
 use mathlib.Core.Logic.{_⊎_, inl, inr}
 use native.Mathlib.Omega.{arith}
 use native.Mathlib.Nat.{not-suc-le-zero}
-use borrow.Author.Tests.{ltb-true, ltb-false, eqb-true, eqb-false, ne-eqb}
+use borrow.Author.Tests.{ltb-true, ltb-false, eqb-true, eqb-false, ne-eqb, le-ltb}
+use lib.Bits.{bitAnd}
 use lib.Dec.{T, ltb, eqb, ltb→lt}
 use Rattle.cdf_unit_table.specs.Ids.{member}
 
@@ -64,3 +65,9 @@ not-member [] n t k h = refl
 not-member (x ∷ xs) n t k h =
     rw (ne-eqb k x (λ e. absurd (omega (arith, ltb→lt x n (and-left (ltb x n) (all (λ y. ltb y n) xs) t)))))
     (not-member xs n (and-right (ltb x n) (all (λ y. ltb y n) xs) t) k h)
+
+-- a test by a bit of a word for each number below 32
+pub by-bit : (word : ℕ) (g : ℕ → Bool) → T (below (λ k. Bool·beq (ltb k 32 && eqb (bitAnd (word / 2 ^ (k % 32)) 1) 1) (g k)) 32) →
+    ((k : ℕ) → 32 ≤ k → g k ≡ false) → (k : ℕ) → (ltb k 32 && eqb (bitAnd (word / 2 ^ (k % 32)) 1) 1) ≡ g k
+by-bit word g t beyond =
+    agree (λ k. ltb k 32 && eqb (bitAnd (word / 2 ^ (k % 32)) 1) 1) g 32 t (λ k h. rw (le-ltb k 32 h, beyond k h))

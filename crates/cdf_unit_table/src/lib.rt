@@ -185,7 +185,27 @@ pub fn skipped_state(state: usize) -> usize
 }
 
 // The states in which a unit is complete, a bit for each.
-const COMPLETE: usize = 1986510556;
+const COMPLETE: usize = (1 << STREAM_CALL)
+    + (1 << STREAM_GROUP)
+    + (1 << STREAM_SKIPPED)
+    + (1 << ER_DATA)
+    + (1 << ER_SKIPPED)
+    + (1 << FILE_LINES)
+    + (1 << FILE_SKIPPED)
+    + (1 << CALL_NEW)
+    + (1 << CALL_PARAMETERS)
+    + (1 << CALL_SKIPPED)
+    + (1 << TEMPLATE_TEMPORARY)
+    + (1 << TEMPLATE_KEYS)
+    + (1 << TEMPLATE_FIELDS)
+    + (1 << TEMPLATE_SKIPPED)
+    + (1 << RELATION_TARGET)
+    + (1 << RELATION_SKIPPED)
+    + (1 << ORDERED_TARGET)
+    + (1 << ORDERED_SKIPPED)
+    + (1 << ENTITY_TEMPORARY)
+    + (1 << ENTITY_KEYS)
+    + (1 << ENTITY_SKIPPED);
 
 // Whether a unit in this state is complete.
 pub fn is_complete(state: usize) -> bool

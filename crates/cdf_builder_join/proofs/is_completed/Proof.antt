@@ -4,7 +4,7 @@ use native.Mathlib.Omega.{arith}
 use borrow.Author.Needs.{needs}
 use borrow.Author.Tests.{not-true, not-false}
 use Rattle.cdf_builder_spec.specs.Requests.{completed}
-use Rattle.cdf_builder_join.specs.Parts.{units}
+use Rattle.cdf_builder_spec.specs.Slots.{units}
 use Rattle.cdf_builder_join.proofs.Joins.{completed-on, completed-not, completed-none}
 use Rattle.cdf_builder_join.proofs.is_completed.Statement.{statement}
 use Rattle.cdf_builder_join.proofs.is_completed.Tie as tie

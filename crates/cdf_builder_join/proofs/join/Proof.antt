@@ -1,8 +1,8 @@
 -- The loop keeps `Going` (proofs/Joins); what is left falls with each turn.
-use mathlib.Core.Path.{sym, _∙_}
+use mathlib.Core.Path.{refl, sym, _∙_}
 use native.Mathlib.Omega.{arith}
 use borrow.Author.Needs.{needs}
-use Rattle.cdf_builder_join.specs.Parts.{units}
+use Rattle.cdf_builder_spec.specs.Slots.{units}
 use Rattle.cdf_builder_join.proofs.Joins.{Going, begins, on, found, none}
 use Rattle.cdf_builder_join.proofs.join.Statement.{statement}
 use Rattle.cdf_builder_join.proofs.join.Tie as tie
@@ -24,14 +24,14 @@ returns c =
     let asked = c .before .before in
     let turn = asked .before in
     let w = found _ _ _ _ _ (turn .before .loop .inv) (turn .loop-test .taken) _ (asked .state-after .ensures) (c .before .if1 .taken) in
-    (sym (rw (c .if2 .taken) at (w .0)), w .1)
+    (sym (rw (c .if2 .taken) at (w .0)), (w .1, λ e. absurd (omega arith)))
 
 returns-2 : tie.Need-returns-2 Inv-loop μ-loop
 returns-2 c =
     let asked = c .before .before in
     let turn = asked .before in
     let w = found _ _ _ _ _ (turn .before .loop .inv) (turn .loop-test .taken) _ (asked .state-after .ensures) (c .before .if1 .taken) in
-    (sym (rw (c .if2 .left) at (w .0)), w .1)
+    (sym (rw (c .if2 .left) at (w .0)), (w .1, λ e. absurd (omega arith)))
 
 is-complete-requires : tie.Need-is-complete-requires Inv-loop μ-loop
 is-complete-requires c κs = search needs
@@ -56,7 +56,7 @@ loop-again c =
 returns-3 : tie.Need-returns-3 Inv-loop μ-loop
 returns-3 c =
     let w = none _ _ _ _ _ (c .before .loop .inv) (c .loop-test .left) in
-    (sym (w .0), w .1)
+    (sym (w .0), (w .1, λ e. refl))
 
 pub join-spec : {M : Type 1} → statement M
 join-spec =

@@ -3,11 +3,10 @@ use mathlib.Core.Path.{refl, sym, _∙_}
 use Prim.Native.Nat.{_+_, _≤_}
 use native.Mathlib.Omega.{arith}
 use borrow.Author.Needs.{needs}
-use borrow.Author.Tests.{leb-true, leb-false}
+use borrow.Author.Tests.{leb-true}
 use lib.ListN.{length, length-drop}
 use Rattle.cdf_unit_table.proofs.Parts.{rest}
-use Rattle.cdf_builder_write.proofs.Patching.{patch-none}
-use Rattle.cdf_builder_write.proofs.Lent.{patched}
+use Rattle.cdf_builder_write.proofs.Lent.{wrote, stayed}
 use Rattle.cdf_builder_write.proofs.write_bytes.Statement.{statement}
 use Rattle.cdf_builder_write.proofs.write_bytes.Tie as tie
 
@@ -36,15 +35,16 @@ same-length c = search needs
 
 returns : tie.Need-returns
 returns c =
-    let then = c .before .before .before .before in
+    let put = c .before .before in
+    let then = put .before .before in
     let a = then .before .before .before .before .args in
-    patched (a .at) (length (a .bytes .now)) (a .bytes .now) (a .buffer .now) (c .before .before .put-bytes .last .0) refl
-    (c .before .before .put-bytes .ensures) (room then)
+    wrote (a .at) _ (a .bytes .now) (a .buffer .now) refl _ (then .before .has-room .ensures) (then .if1 .taken) (put .put-bytes .last .0)
+    (put .put-bytes .ensures)
 
 returns-2 : tie.Need-returns-2
 returns-2 c =
     let a = c .before .before .before .before .args in
-    sym (patch-none (a .at) (a .bytes .now) (a .buffer .now) (leb-false _ _ (sym (c .before .has-room .ensures) ∙ c .if1 .left)))
+    stayed (a .at) _ (a .bytes .now) (a .buffer .now) refl _ (c .before .has-room .ensures) (c .if1 .left)
 
 pub write-bytes-spec : {M : Type 1} → statement M
 write-bytes-spec =

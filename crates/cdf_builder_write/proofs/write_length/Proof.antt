@@ -1,15 +1,14 @@
 -- The tail that is lent begins behind the mark, where there is room.
-use mathlib.Core.Path.{sym, _∙_}
-use Prim.Native.Nat.{_+_, _≤_, _<_}
+use mathlib.Core.Path.{_≡_, sym, _∙_}
+use Prim.Native.Nat.{ℕ, _+_, _≤_}
 use native.Mathlib.Omega.{arith}
 use borrow.Author.Needs.{needs}
-use borrow.Author.Tests.{leb-true, leb-false}
+use borrow.Author.Tests.{leb-true}
 use lib.ListN.{length, length-drop}
 use Rattle.cdf_unit_table.proofs.Parts.{rest}
 use Rattle.cdf_grammar.specs.Encoding.{bytesOf}
 use Rattle.cdf_grammar.proofs.Numbers.{length-bytes}
-use Rattle.cdf_builder_write.proofs.Patching.{patch-none}
-use Rattle.cdf_builder_write.proofs.Lent.{patched}
+use Rattle.cdf_builder_write.proofs.Lent.{wrote, stayed}
 use Rattle.cdf_builder_write.proofs.write_length.Statement.{statement}
 use Rattle.cdf_builder_write.proofs.write_length.Tie as tie
 
@@ -46,6 +45,10 @@ put-number-requires c κs = rw (rest, length-drop) (omega (arith, room (c .befor
 same-length : tie.Need-same-length
 same-length c = search needs
 
+-- The mark stands between.
+behind : (start k : ℕ) → start + (k + 2) ≡ start + 2 + k
+behind start k = omega arith
+
 returns : tie.Need-returns
 returns c =
     let put = c .before .before in
@@ -54,17 +57,17 @@ returns c =
     let a = width .before .before .args in
     let k = width .length-bytes .result in
     rw (← width .length-bytes .ensures .0)
-    (patched (a .start + 2) k (bytesOf k (a .len)) (a .buffer .now) (put .put-number .last .1 .0) (length-bytes k (a .len))
-    (put .put-number .ensures) (omega (arith, room then)))
+    (wrote (a .start + 2) k (bytesOf k (a .len)) (a .buffer .now) (length-bytes k (a .len)) _
+    (rw (behind (a .start) k) at (then .before .has-room .ensures)) (then .if1 .taken) (put .put-number .last .1 .0) (put .put-number .ensures))
 
 returns-2 : tie.Need-returns-2
 returns-2 c =
     let width = c .before .before in
     let a = width .before .before .args in
     let k = width .length-bytes .result in
-    let few : length (a .buffer .now) < a .start + (k + 2) = leb-false _ _ (sym (c .before .has-room .ensures) ∙ c .if1 .left) in
     rw (← width .length-bytes .ensures .0)
-    (sym (patch-none (a .start + 2) (bytesOf k (a .len)) (a .buffer .now) (rw length-bytes (omega arith))))
+    (stayed (a .start + 2) k (bytesOf k (a .len)) (a .buffer .now) (length-bytes k (a .len)) _
+    (rw (behind (a .start) k) at (c .before .has-room .ensures)) (c .if1 .left))
 
 pub write-length-spec : {M : Type 1} → statement M
 write-length-spec =

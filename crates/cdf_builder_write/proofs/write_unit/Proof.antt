@@ -1,16 +1,15 @@
 -- The tail that is lent begins at the writing place, where there is room.
 use mathlib.Core.Path.{sym, _∙_}
 use mathlib.Core.List.{[]}
-use Prim.Native.Nat.{_+_, _≤_, _<_}
+use Prim.Native.Nat.{_+_, _≤_}
 use native.Mathlib.Omega.{arith}
 use borrow.Author.Needs.{needs}
-use borrow.Author.Tests.{leb-true, leb-false}
+use borrow.Author.Tests.{leb-true}
 use lib.ListN.{length, length-drop}
 use Rattle.cdf_unit_prefix.specs.Layout.{layoutOf, prefixOf}
 use Rattle.cdf_unit_table.proofs.Parts.{rest}
 use Rattle.cdf_grammar.specs.Encoding.{unitBytes}
-use Rattle.cdf_builder_write.proofs.Patching.{patch-none}
-use Rattle.cdf_builder_write.proofs.Lent.{patched, length-alone}
+use Rattle.cdf_builder_write.proofs.Lent.{wrote, stayed, length-alone}
 use Rattle.cdf_builder_write.proofs.write_unit.Statement.{statement}
 use Rattle.cdf_builder_write.proofs.write_unit.Tie as tie
 
@@ -52,8 +51,8 @@ returns c =
     let a = p .before .before .before .args in
     let l = layoutOf (a .edition) in
     let text = a .«data» .now in
-    patched (a .at) (prefixOf l + length text) (unitBytes l (a .id) (a .action) text []) (a .buffer .now) (put .put-unit .last .1 .0)
-    (length-alone l (a .id) (a .action) text) (put .put-unit .ensures) (omega (arith, room then, p .prefix .ensures .0))
+    wrote (a .at) (prefixOf l + length text) (unitBytes l (a .id) (a .action) text []) (a .buffer .now) (length-alone l (a .id) (a .action) text) _
+    (rw (p .prefix .ensures .0) at (then .before .has-room .ensures)) (then .if1 .taken) (put .put-unit .last .1 .0) (put .put-unit .ensures)
 
 returns-2 : tie.Need-returns-2
 returns-2 c =
@@ -61,10 +60,8 @@ returns-2 c =
     let a = p .before .before .before .args in
     let l = layoutOf (a .edition) in
     let text = a .«data» .now in
-    let few : length (a .buffer .now) < a .at + (p .prefix .result + length text) = leb-false _ _ (sym (c .before .has-room .ensures) ∙ c .if1 .left) in
-    sym
-    (patch-none (a .at) (unitBytes l (a .id) (a .action) text []) (a .buffer .now)
-    (rw length-alone (omega (arith, p .prefix .ensures .0))))
+    stayed (a .at) (prefixOf l + length text) (unitBytes l (a .id) (a .action) text []) (a .buffer .now) (length-alone l (a .id) (a .action) text) _
+    (rw (p .prefix .ensures .0) at (c .before .has-room .ensures)) (c .if1 .left)
 
 pub write-unit-spec : {M : Type 1} → statement M
 write-unit-spec =

@@ -3,7 +3,7 @@ use mathlib.Core.Path.{ap}
 use mathlib.Core.List.{[], _∷_}
 use borrow.Author.Needs.{needs}
 use Rattle.cdf_unit_list.specs.Check.{Answer}
-use Rattle.cdf_check.specs.Answers.{paperOf}
+use Rattle.cdf_check.specs.Answers.{asAnswer}
 use Rattle.cdf_check_c.proofs.cdf_check.Statement.{statement}
 use Rattle.cdf_check_c.proofs.cdf_check.Tie as tie
 
@@ -17,13 +17,13 @@ enum-known-number : tie.Need-enum-known-number
 enum-known-number c = search needs
 
 returns : tie.Need-returns
-unfolding paperOf
+unfolding asAnswer
 returns c =
     let told = rw (c .before .before .n .given .1) at (c .before .before .before .before .check .ensures .0) in
     (ap (λ (a : Answer). a .number) told, ap (λ (a : Answer). a .value ∷ []) told)
 
 returns-2 : tie.Need-returns-2
-unfolding paperOf
+unfolding asAnswer
 returns-2 c =
     let told = rw (c .before .before .number .given .1) at (c .before .before .before .before .check .ensures .0) in
     (ap (λ (a : Answer). a .number) told, ap (λ (a : Answer). a .value ∷ []) told)

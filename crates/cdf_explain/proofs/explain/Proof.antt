@@ -1,23 +1,35 @@
 -- The loop ends, since each unit comes further. `done` is where the number is known not to be 0.
 use Prim.Native.Nat.{_≤_}
 use mathlib.Core.Path.{_≡_, ap, sym, _∙_}
+use mathlib.Core.List.{List, [], _∷_}
 use borrow.Author.Needs.{needs}
 use lib.ListN.{length}
 use Rattle.cdf_unit_prefix.specs.Layout.{layoutOf}
 use Rattle.cdf_unit_prefix.specs.declared.Edition.the-variants.{First}
+use Rattle.cdf_unit_list.specs.declared.Unit.{Unit}
 use Rattle.cdf_reader.specs.View.{view, replyOf}
+use Rattle.cdf_reader_runs.proofs.Looping.{Going, begun, turned, over}
 use Rattle.cdf_reader_runs.proofs.Further.{first-later, next-later, ahead, less}
 use Rattle.cdf_explain.specs.Numbers.{explainedBy}
 use Rattle.cdf_explain.specs.Parts.{toldAt}
-use Rattle.cdf_explain.proofs.Explaining.{Going, begun, on, over, closed-units, closed-few}
+use Rattle.cdf_explain.proofs.Explaining.{Told, told-end, closed-units, closed-few}
 use Rattle.cdf_explain.proofs.explain.Statement.{statement}
 use Rattle.cdf_explain.proofs.explain.Tie as tie
 
 abbrev Inv-loop : tie.InvT-loop
-Inv-loop s a₀ a = Going (layoutOf First) s (replyOf a) × (a .number ≡ 0 → a .place .position ≤ length s)
+Inv-loop s a₀ a =
+    ((before : List Unit) × Going (layoutOf First) s before (replyOf a)) × (a .number ≡ 0 → a .place .position ≤ length s)
 
 abbrev μ-loop : tie.MeasureT-loop
 μ-loop s a₀ a = ahead (layoutOf First) s (a .number) (a .place .position)
+
+-- What is told where the loop ends.
+end-of : (turn : tie.At-loop Inv-loop μ-loop) → (turn .loop .a .number ≡ 0 → ⊥) →
+    Told (layoutOf First) (turn .before .before .before .args .s .now) (replyOf (turn .loop .a))
+end-of turn some =
+    let s = turn .before .before .before .args .s .now in
+    let g = turn .loop .inv .0 in
+    told-end (layoutOf First) s (g .0) (replyOf (turn .loop .a)) (over (layoutOf First) s (g .0) (replyOf (turn .loop .a)) (g .1) some)
 
 first-requires : tie.Need-first-requires Inv-loop μ-loop
 first-requires c κs = search needs
@@ -25,7 +37,7 @@ first-requires c κs = search needs
 loop-holds : tie.Need-loop-holds Inv-loop μ-loop
 loop-holds c =
     let s = c .before .before .args .s .now in (
-      begun (layoutOf First) s (replyOf (c .first .result)) (c .first .ensures .0),
+      ([], begun (layoutOf First) s (replyOf (c .first .result)) (c .first .ensures .0)),
       λ z. (rw (← c .first .ensures .0) at (first-later (layoutOf First) s)) z .1,
     )
 
@@ -46,8 +58,9 @@ loop-again c =
     let more = c .before .before in
     let turn = more .before .before in
     let s = turn .before .before .before .args .s .now in
-    let a = turn .loop .a in (
-      rw (c .next .ensures .0) (on (layoutOf First) s (replyOf a) (turn .loop .inv .0) (more .if1 .taken)),
+    let a = turn .loop .a in
+    let before = turn .loop .inv .0 .0 in (
+      (a .unit ∷ before, rw (c .next .ensures .0) (turned (layoutOf First) s before (replyOf a) (turn .loop .inv .0 .1) (more .if1 .taken) .next)),
       λ z. (rw (← c .next .ensures .0) at (next-later (layoutOf First) s (view (a .place)))) z .1,
     )
 
@@ -55,10 +68,7 @@ returns : tie.Need-returns Inv-loop μ-loop
 unfolding explainedBy
 returns c =
     let done = c .before .before in
-    let turn = done .before .before in
-    let s = turn .before .before .before .args .s .now in
-    let end = over (layoutOf First) s (replyOf (turn .loop .a)) (turn .loop .inv .0) (done .if1 .left) in
-    rw (end .accepted (c .if2 .taken))
+    rw (end-of (done .before .before) (done .if1 .left) .accepted (c .if2 .taken))
 
 close-ended-requires : tie.Need-close-ended-requires Inv-loop μ-loop
 close-ended-requires c κs = search needs
@@ -67,9 +77,8 @@ tell-requires : tie.Need-tell-requires Inv-loop μ-loop
 tell-requires c κs =
     let done = c .before .before .before .before in
     let turn = done .before .before in
-    let s = turn .before .before .before .args .s .now in
     let a = turn .loop .a in
-    let end = over (layoutOf First) s (replyOf a) (turn .loop .inv .0) (done .if1 .left) in
+    let end = end-of turn (done .if1 .left) in
     closed-few (c .close-ended .result) (a .place) (c .close-ended .ensures) (end .few)
 
 returns-2 : tie.Need-returns-2 Inv-loop μ-loop
@@ -77,9 +86,8 @@ returns-2 c =
     let refused = c .before .before .before in
     let done = refused .before .before in
     let turn = done .before .before in
-    let s = turn .before .before .before .args .s .now in
     let a = turn .loop .a in
-    let end = over (layoutOf First) s (replyOf a) (turn .loop .inv .0) (done .if1 .left) in
+    let end = end-of turn (done .if1 .left) in
     c .tell .ensures
     ∙ ap (toldAt (a .number) (a .offset)) (closed-units (c .before .close-ended .result) (a .place) (c .before .close-ended .ensures))
     ∙ sym (end .told (refused .if2 .left))

@@ -4,7 +4,7 @@ use borrow.Author.Needs.{needs}
 use Rattle.cdf_unit_prefix.specs.Layout.{layoutOf}
 use Rattle.cdf_unit_prefix.specs.declared.Edition.the-variants.{First}
 use Rattle.cdf_unit_list.specs.Check.{Answer}
-use Rattle.cdf_check.specs.Answers.{paperOf}
+use Rattle.cdf_check.specs.Answers.{asAnswer}
 use Rattle.cdf_lookup.proofs.Rooted.{refused-some}
 use Rattle.cdf_lookup.proofs.fault_of.Statement.{statement}
 use Rattle.cdf_lookup.proofs.fault_of.Tie as tie
@@ -19,23 +19,23 @@ enum-known-number : tie.Need-enum-known-number
 enum-known-number c = search needs
 
 returns : tie.Need-returns
-unfolding paperOf
+unfolding asAnswer
 returns c =
     let told = c .before .before .check .ensures in
     let is = c .enum-told .given .1 in
-    let paper = rw is at (told .0) in
+    let numbers = rw is at (told .0) in
     let w = told .1 .1 _ .0 is in
-    (ap (λ (a : Answer). a .number) paper, ((λ some. absurd (some refl)), (λ z. (w .0, w .1))))
+    (ap (λ (a : Answer). a .number) numbers, ((λ some. absurd (some refl)), (λ z. (w .0, w .1))))
 
 returns-2 : tie.Need-returns-2
-unfolding paperOf
+unfolding asAnswer
 returns-2 c =
     let told = c .before .before .before .check .ensures in
     let is = c .before .number .given .1 in
-    let paper = rw is at (told .0) in
+    let numbers = rw is at (told .0) in
     let s = c .before .before .before .before .before .args .s .now in (
-      ap (λ (a : Answer). a .number) paper,
-      ((λ some. ap (λ (a : Answer). a .value) paper), (λ z. absurd (refused-some (layoutOf First) s _ _ (sym is ∙ told .1 .0) z))),
+      ap (λ (a : Answer). a .number) numbers,
+      ((λ some. ap (λ (a : Answer). a .value) numbers), (λ z. absurd (refused-some (layoutOf First) s _ _ (sym is ∙ told .1 .0) z))),
     )
 
 pub fault-of-spec : {M : Type 1} → statement M

@@ -3,7 +3,7 @@ use native.Mathlib.Omega.{arith}
 use borrow.Author.Needs.{needs}
 use lib.ListN.{length-set}
 use lib.Seq.{sets-eq}
-use Rattle.cdf_reader_c.specs.Replay.{entryFrom}
+use Rattle.cdf_reader_c.specs.Entries.{entryFrom}
 use Rattle.cdf_reader_c.proofs.write_entry.Statement.{statement}
 use Rattle.cdf_reader_c.proofs.write_entry.Tie as tie
 

@@ -36,7 +36,8 @@ answered c =
       place = read .place-from .result;
       read = read .place-from .ensures;
       due = call .call .ensures .0;
-      kept = call .call .ensures .1;
+      kept = call .call .ensures .1 .0;
+      again = call .call .ensures .1 .1;
       part = record { start = part .part-by .result .start; size = part .part-by .result .size };
       by = part .part-by .ensures;
       written = wrote .write-answer .ensures;

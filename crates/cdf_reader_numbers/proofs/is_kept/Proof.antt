@@ -1,17 +1,34 @@
--- Two tests.
+-- By the call.
 use borrow.Author.Needs.{needs}
-use borrow.Author.Tests.{eq-eqb, ne-eqb}
 use Rattle.cdf_reader_numbers.proofs.is_kept.Statement.{statement}
 use Rattle.cdf_reader_numbers.proofs.is_kept.Tie as tie
 
 returns : tie.Need-returns
-returns c = rw (eq-eqb _ 0 (c .if1 .taken))
-
-is-start-requires : tie.Need-is-start-requires
-is-start-requires c κs = search needs
+returns c = rw (c .enum-told .given .1)
 
 returns-2 : tie.Need-returns-2
-returns-2 c = rw (ne-eqb _ 0 (c .before .if1 .left), c .is-start .ensures)
+returns-2 c = rw (c .enum-told2 .given .1)
+
+returns-3 : tie.Need-returns-3
+returns-3 c = rw (c .enum-told3 .given .1)
+
+returns-4 : tie.Need-returns-4
+returns-4 c = rw (c .enum-told4 .given .1)
+
+returns-5 : tie.Need-returns-5
+returns-5 c = rw (c .enum-told5 .given .1)
 
 pub is-kept-spec : {M : Type 1} → statement M
-is-kept-spec = tie.close (tie.spec returns is-start-requires returns-2)
+is-kept-spec =
+    tie.close
+    (tie.spec
+    (λ c. search needs)
+    (λ c. search needs)
+    (λ c. search needs)
+    (λ c. search needs)
+    (λ c. search needs)
+    returns
+    returns-2
+    returns-3
+    returns-4
+    returns-5)

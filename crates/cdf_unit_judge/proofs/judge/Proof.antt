@@ -1,13 +1,12 @@
 -- Each return by the law of its stage. A place of the code is named by what was just learnt there: `told` the prefix's fields,
--- `passed` the admission, `prefixed` the prefix's length, `inside` the body.
+-- `passed` the admission, `prefixed` the prefix's length.
+use Prim.Native.Nat.{_≤_}
 use mathlib.Core.Path.{sym, _∙_}
 use native.Mathlib.Omega.{arith}
 use borrow.Author.Needs.{needs}
-use lib.ListN.{length-take}
+use lib.ListN.{length}
 use Rattle.cdf_unit_table.proofs.Rows.{admits-nested}
 use Rattle.cdf_unit_prefix.specs.Layout.{layoutOf}
-use Rattle.cdf_unit_judge.specs.Judge.{foundBy}
-use Rattle.cdf_unit_judge.proofs.Placed.{body-fits, fault-fits}
 use Rattle.cdf_unit_judge.proofs.Stages.{bounds, stopped, refused, admitted}
 use Rattle.cdf_unit_judge.proofs.judge.Statement.{statement}
 use Rattle.cdf_unit_judge.proofs.judge.Tie as tie
@@ -33,96 +32,40 @@ returns c =
 prefix-requires : tie.Need-prefix-requires
 prefix-requires c κs = search needs
 
-sub-judge-body : tie.Need-sub-judge-body
-sub-judge-body c =
+-- The bytes after the prefix are there.
+lies : (c : tie.After-prefix) →
+    let told = c .before .before .before .before in
+    let read = told .before .before in
+    (c .prefix .result ≤ told .id .given .0 .1 .1 .0) × (told .id .given .0 .1 .1 .0 ≤ length (read .before .before .args .s .now))
+lies c =
     let told = c .before .before .before .before in
     let read = told .before .before in
     let fit = bounds (layoutOf (read .before .before .args .edition)) _ _ _ (read .head .ensures) (told .id .given .1) in
     omega (arith, fit, c .prefix .ensures .0)
 
-part-judge-body-start : tie.Need-part-judge-body-start
-part-judge-body-start c =
-    let told = c .before .before .before .before in
-    let read = told .before .before in
-    let fit = bounds (layoutOf (read .before .before .args .edition)) _ _ _ (read .head .ensures) (told .id .given .1) in
-    omega (arith, fit, c .prefix .ensures .0)
+sub-judge-admitted : tie.Need-sub-judge-admitted
+sub-judge-admitted c = omega (arith, lies c)
 
-part-judge-body-end : tie.Need-part-judge-body-end
-part-judge-body-end c =
-    let told = c .before .before .before .before in
-    let read = told .before .before in
-    let fit = bounds (layoutOf (read .before .before .args .edition)) _ _ _ (read .head .ensures) (told .id .given .1) in
-    omega (arith, fit, c .prefix .ensures .0)
+part-judge-admitted-start : tie.Need-part-judge-admitted-start
+part-judge-admitted-start c = omega (arith, lies c)
 
-judge-body-requires : tie.Need-judge-body-requires
-judge-body-requires c κs = search needs
+part-judge-admitted-end : tie.Need-part-judge-admitted-end
+part-judge-admitted-end c = omega (arith, lies c)
 
-enum-told : tie.Need-enum-told
-enum-told c = search needs
-
-enum-known-k : tie.Need-enum-known-k
-enum-known-k c = search needs
-
-add-bad : tie.Need-add-bad
-add-bad c =
-    let inside = c .before .before .before in
-    let prefixed = inside .before .before in
-    let told = prefixed .before .before .before .before in
-    let read = told .before .before in
-    let few = fault-fits _ _ _ _ (sym (inside .judge-body .ensures) ∙ c .before .k .given .1) in
-    let fit = bounds (layoutOf (read .before .before .args .edition)) _ _ _ (read .head .ensures) (told .id .given .1) in
-    omega (arith, fit, prefixed .prefix .ensures .0, simp length-take at few)
-
-enum-known-k-2 : tie.Need-enum-known-k-2
-enum-known-k-2 c = search needs
-
-add-own : tie.Need-add-own
-add-own c =
-    let inside = c .before .before .before in
-    let prefixed = inside .before .before in
-    let told = prefixed .before .before .before .before in
-    let read = told .before .before in
-    let few = body-fits _ _ _ _ (sym (inside .judge-body .ensures) ∙ c .before .k2 .given .1) in
-    let fit = bounds (layoutOf (read .before .before .args .edition)) _ _ _ (read .head .ensures) (told .id .given .1) in
-    omega (arith, fit, prefixed .prefix .ensures .0, simp length-take at few)
+judge-admitted-requires : tie.Need-judge-admitted-requires
+judge-admitted-requires c κs = search needs
 
 returns-2 : tie.Need-returns-2
 returns-2 c = stopped _ _ _ _ (c .before .before .before .head .ensures) _ (c .before .n .given .1)
 
 returns-3 : tie.Need-returns-3
-unfolding foundBy
 returns-3 c =
-    let inside = c .before .before in
-    let prefixed = inside .before .before in
+    let prefixed = c .before .before in
     let passed = prefixed .before in
     let told = passed .before .before .before in
-    admitted _ _ _ _ (told .before .before .head .ensures) _ (told .id .given .1) _
-    (passed .before .state-after .ensures ∙ sym (admits-nested _ _)) (passed .if1 .left) _ (prefixed .prefix .ensures .0) _
-    (inside .judge-body .ensures) (c .enum-told .given .1)
-
-returns-4 : tie.Need-returns-4
-unfolding foundBy
-returns-4 c =
-    let inside = c .before .before .before in
-    let prefixed = inside .before .before in
-    let passed = prefixed .before in
-    let told = passed .before .before .before in
-    rw (prefixed .prefix .ensures .0)
-    (admitted _ _ _ _ (told .before .before .head .ensures) _ (told .id .given .1) _
-    (passed .before .state-after .ensures ∙ sym (admits-nested _ _)) (passed .if1 .left) _ (prefixed .prefix .ensures .0) _
-    (inside .judge-body .ensures) (c .before .k .given .1))
-
-returns-5 : tie.Need-returns-5
-unfolding foundBy
-returns-5 c =
-    let inside = c .before .before .before in
-    let prefixed = inside .before .before in
-    let passed = prefixed .before in
-    let told = passed .before .before .before in
-    rw (prefixed .prefix .ensures .0)
-    (admitted _ _ _ _ (told .before .before .head .ensures) _ (told .id .given .1) _
-    (passed .before .state-after .ensures ∙ sym (admits-nested _ _)) (passed .if1 .left) _ (prefixed .prefix .ensures .0) _
-    (inside .judge-body .ensures) (c .before .k2 .given .1))
+    c .judge-admitted .ensures
+    ∙ admitted _ _ _ _ (told .before .before .head .ensures) _ (told .id .given .1) _
+    (passed .before .state-after .ensures ∙ sym (admits-nested _ _)) (passed .if1 .left) _ (prefixed .prefix .ensures .0)
 
 pub judge-spec : {M : Type 1} → statement M
 judge-spec =
@@ -134,16 +77,9 @@ judge-spec =
     state-after-requires
     returns
     prefix-requires
-    sub-judge-body
-    part-judge-body-start
-    part-judge-body-end
-    judge-body-requires
-    enum-told
-    enum-known-k
-    add-bad
-    enum-known-k-2
-    add-own
+    sub-judge-admitted
+    part-judge-admitted-start
+    part-judge-admitted-end
+    judge-admitted-requires
     returns-2
-    returns-3
-    returns-4
-    returns-5)
+    returns-3)

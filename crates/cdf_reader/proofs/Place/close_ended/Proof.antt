@@ -9,7 +9,7 @@ close-requires c κs = search needs
 
 returns : tie.Need-returns
 unfolding closedAt
-returns c = rw (c .before .before .close .ensures .is)
+returns c = rw (c .before .before .close .ensures)
 
 pub close-ended-spec : {M : Type 1} → statement M
 close-ended-spec = tie.close (tie.spec close-requires returns)

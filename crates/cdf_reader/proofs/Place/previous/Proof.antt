@@ -1,15 +1,32 @@
--- The call by its name.
+-- The outcome at the place's cursor (proofs/Answering), of the call by its name.
 use mathlib.Core.Path.{refl, _∙_}
 use borrow.Author.Needs.{needs}
-use Rattle.cdf_reader.proofs.Asking.{previous-is}
+use Rattle.cdf_unit_prefix.specs.Layout.{layoutOf}
+use Rattle.cdf_unit_prefix.specs.declared.Edition.the-variants.{First}
+use Rattle.cdf_reader_spec.specs.Calls.{previousOf}
+use Rattle.cdf_reader_spec.proofs.Replying.{previous-named}
+use Rattle.cdf_reader.proofs.Answering.{due, stays}
 use Rattle.cdf_reader.proofs.Place.previous.Statement.{statement}
 use Rattle.cdf_reader.proofs.Place.previous.Tie as tie
 
-call-as-requires : tie.Need-call-as-requires
-call-as-requires c κs = search needs
+cursor-requires : tie.Need-cursor-requires
+cursor-requires c κs = search needs
+
+call-at-requires : tie.Need-call-at-requires
+call-at-requires c κs = search needs
+
+answered-requires : tie.Need-answered-requires
+answered-requires c κs = search needs
 
 returns : tie.Need-returns
-returns c = (c .call-as .ensures .0 ∙ previous-is _ _ _, c .call-as .ensures .1 .1 refl)
+returns c =
+    let told = c .before in
+    let at = told .before in
+    let s = at .before .before .args .s .now in (
+      due _ _ (at .cursor .ensures) _ _ (c .answered .ensures) (previousOf (layoutOf First) s)
+          (told .call-at .ensures .0 ∙ previous-named _ _ _),
+      stays _ _ (at .cursor .ensures) _ _ (c .answered .ensures) (told .call-at .ensures .1 .1 refl),
+    )
 
 pub previous-spec : {M : Type 1} → statement M
-previous-spec = tie.close (tie.spec call-as-requires returns)
+previous-spec = tie.close (tie.spec cursor-requires call-at-requires answered-requires returns)

@@ -1,0 +1,3 @@
+pub mod Entered
+pub mod Stages
+pub mod Few
