@@ -1,140 +1,98 @@
 #!/usr/bin/env bash
-# The command for people: lists or checks a stream with the proved program cdf_listing_program, says why one is refused with cdf_tell, and looks a
-# value up in two with cdf_pick. It builds the program where it is missing or older than its sources.
+# Runs the command for people, rust/cli. Where its program is missing, or older than what it is made of, it is built first: the crates
+# that C calls are proved and joined (./library), and cargo makes the program. One build serves all commands.
 set -u
-root=$(cd "$(dirname "${BASH_SOURCE[0]}")" && pwd) || exit 2
-
-usage() {
-    cat <<'END'
-usage: ./cdf COMMAND [FILE]
-       ./cdf lookup FIRST SECOND TEMPLATE KEY FIELD
-
-  list [FILE]    a line for each unit of the stream: offset, depth, id, action and length; then 'ok N' for N units.
-                 For bytes that are no stream only 'refused N at OFFSET': the number of the rule that is broken first, and
-                 where. The numbers are in section 4 of docs/FORMAT.md.
-  check [FILE]   the last of these lines alone. The exit status is 1 for a refusal
-  explain [FILE] why the stream is refused, in words: the rule that is broken first and the byte, the units around it, and
-                 what could have stood there. The exit status is 0, also for a refusal
-  lookup FIRST SECOND TEMPLATE KEY FIELD
-                 the value of a field, from the first of two files that has it: which file and where in it, and then the
-                 value on a line of its own. In each file the first template of this name whose first key is KEY is
-                 searched. KEY is '#' and a number, 0 to 4294967295, for a temporary key, and else a template key's text;
-                 '##x' is the text '#x'. Names are given as they read, without their count byte. The exit status is 1 for a
-                 refusal: a file that the check refuses, a root that is no E/R data group, a field that neither file has
-  help           this text
-
-Without FILE the stream is read from standard input. The first 65,536 bytes are judged: a stream has at most 65,535.
-The first call builds the program, which takes the Rattle kit ('rt') and some minutes. The exit status is 2 where there is
-no such file, no such key or no such command, or where the program cannot be built.
-END
-}
+unset CDPATH CDF_LIB_DIR CARGO_TARGET_DIR
+self=$(readlink -f -- "${BASH_SOURCE[0]}") || exit 2
+root=${self%/*}
+program=$root/rust/target/release/cdf
+log=$root/rust/target/build.log
+kit='rattle-kit-5b-plain logic 097e4c862dff5811' # what it was proved with
 
 fail() {
     printf 'cdf: %s\n' "$1" >&2
     exit 2
 }
 
-misused() {
-    printf 'cdf: %s\n' "$1" >&2
-    usage >&2
-    exit 2
+# Something that the program is made of and that is newer, or the program itself if it is not there.
+newer() {
+    [ -x "$program" ] || { printf '%s\n' "$program" && return; }
+    find "$root/crates" "$root/crates.txt" "$root/library" "$root/include" "$root/rust" \( -path "$root/rust/target" -o -path '*/tests' \) -prune -o -type f \
+        \( -name '*.rt' -o -name '*.antt' -o -name '*.rs' -o -name '*.toml' -o -name '*.lock' -o -name '*.h' -o -name crates.txt -o -name library \) \
+        -newer "$program" -print -quit
 }
 
-# Proving the program and what it stands on writes many lines: they go to a log.
+# How many crates are proved for the archive: those that C calls, and all below them.
+count_crates() {
+    awk -v wanted="$("$root/library" --crates)" '
+        { sub(/#.*/, ""); at = index($0, ":"); if (at) below[substr($0, 1, at - 1)] = substr($0, at + 1) }
+        function visit(name, parts, n, k) {
+            if (name in seen || !(name in below)) return
+            seen[name] = 1; found++
+            n = split(below[name], parts, " ")
+            for (k = 1; k <= n; k++) visit(parts[k])
+        }
+        END { n = split(wanted, names, " "); for (k = 1; k <= n; k++) visit(names[k]); print found + 0 }' "$root/crates.txt"
+}
+
+make_all() {
+    cd "$root" || return 1
+    # shellcheck disable=SC2046
+    rt check $(./library --crates) && ./library && cargo build --quiet --offline --release --manifest-path rust/Cargo.toml -p cdf-cli && touch "$program"
+}
+
+# What is said while it is built: on a terminal one line that changes, else a line now and then.
+tell_progress() { # PID TOTAL
+    local proved last=-1 waited=0
+    while kill -0 "$1" 2>/dev/null; do
+        proved=$(grep -c '^rt: [a-z_0-9]* proved' "$log" 2>/dev/null)
+        if [ -t 2 ]; then
+            printf '\rcdf: proved %s of %s ' "${proved:-0}" "$2" >&2
+        elif [ "${proved:-0}" -ne "$last" ] && [ $((waited % 50)) -eq 0 ]; then
+            printf 'cdf: proved %s of %s\n' "${proved:-0}" "$2" >&2
+            last=${proved:-0}
+        fi
+        sleep 0.2
+        waited=$((waited + 1))
+    done
+    if [ -t 2 ]; then printf '\r\033[K' >&2; fi
+}
+
 build() {
-    local log=$root/target/log/cdf.out
-    command -v rt >/dev/null || fail "the program is not built yet, and the Rattle kit's command 'rt' is not on the PATH"
-    mkdir -p "$root/target/log" || fail "cannot write to $root/target"
-    echo "cdf: building the program: proving $crate and the crates below it; some two minutes on two cores" >&2
-    if ! (cd "$root" && rt check "$crate") >"$log" 2>&1; then
+    local why="the program is not built yet" pid status
+    [ ! -x "$program" ] || why="the program is older than what it is made of, and is not run"
+    command -v rt >/dev/null || fail "$why; to build it the Rattle kit's command 'rt' must be on the PATH: $kit"
+    command -v cargo >/dev/null || fail "$why; to build it 'cargo' must be on the PATH"
+    mkdir -p "$root/target" "${log%/*}" 2>/dev/null && : 2>/dev/null >"$log" && [ -w "$root/target" ] ||
+        fail "$why; $root/target and ${log%/*} cannot be written"
+    printf 'cdf: building the program: every function is proved first, in some minutes on two cores\n' >&2
+    # A session of its own, so that all of it can be ended.
+    export -f make_all
+    root=$root program=$program setsid bash -c make_all >"$log" 2>&1 </dev/null 9<&- &
+    pid=$!
+    # What proves may be deaf to a first signal.
+    trap 'kill -- "-$pid" 2>/dev/null; sleep 0.2; kill -KILL -- "-$pid" 2>/dev/null; printf "cdf: the build was ended\n" >&2; exit 2' INT TERM HUP
+    tell_progress "$pid" "$(count_crates)"
+    wait "$pid"
+    status=$?
+    trap - INT TERM HUP
+    if [ "$status" -ne 0 ]; then
+        kill -- "-$pid" 2>/dev/null # what a failed part left running
+        [ -d "$root/target" ] || fail "$why; target/ was removed while it was built, as ./test does: call again"
         tail -n 5 "$log" >&2
-        fail "the program could not be built; the whole account is in $log"
+        [ "$(rt version 2>/dev/null)" = "$kit" ] || printf 'cdf: this kit is %s; proved it was with %s\n' "$(rt version 2>&1)" "$kit" >&2
+        fail "$why; it could not be built, and the whole account is in $log"
     fi
-    touch "$program"
-    echo "cdf: built in $SECONDS seconds" >&2
+    printf 'cdf: built in %s seconds\n' "$SECONDS" >&2
 }
 
-# That there is such a file, and no folder.
-is_file() {
-    [ -e "$1" ] || fail "no such file: $1"
-    [ ! -d "$1" ] || fail "a folder, and no file: $1"
-}
-
-# A key as cdf_pick takes it: '#' and a number in eight digits of base sixteen, or '=' and a text.
-set_key() {
-    local LC_ALL=C number=${1#?}
-    case $1 in
-    '##'*) key="=$number" ;;
-    '#'*)
-        case $number in
-        '' | *[!0-9]*) fail "no key: '$1': a number stands behind '#', or a second '#' for a text that begins with '#'" ;;
-        esac
-        number=${number#"${number%%[!0]*}"}
-        [ ${#number} -le 10 ] && [ "${number:-0}" -le 4294967295 ] || fail "no key: '$1': the largest number is 4294967295"
-        printf -v key '#%08x' "${number:-0}"
-        ;;
-    *) key="=$1" ;;
-    esac
-}
-
-command=${1-}
-crate=cdf_listing_program
-case $command in
-list | check) [ $# -le 2 ] || misused "$command takes one file" ;;
-explain)
-    [ $# -le 2 ] || misused "$command takes one file"
-    crate=cdf_tell
-    ;;
-lookup)
-    [ $# -eq 6 ] || misused "lookup takes two files, a template's name, a key and a field's name"
-    crate=cdf_pick
-    set_key "$5"
-    ;;
-help)
-    usage
-    exit 0
-    ;;
-'') misused "no command" ;;
-*) misused "no command '$command'" ;;
-esac
-program=$root/target/bin/$crate
-
-if [ $# -eq 2 ]; then
-    is_file "$2"
-    { exec <"$2"; } 2>/dev/null || fail "cannot read the file: $2"
+if [ -n "$(newer)" ]; then
+    exec 9<"$self"
+    if ! flock -n 9; then
+        printf 'cdf: another call is building, waiting\n' >&2
+        flock 9
+    fi
+    [ -z "$(newer)" ] || build
+    exec 9<&-
 fi
-# Both files are opened here, once: either may be a pipe.
-if [ "$command" = lookup ]; then
-    is_file "$2"
-    is_file "$3"
-    { exec 3<"$2"; } 2>/dev/null || fail "cannot read the file: $2"
-    { exec 4<"$3"; } 2>/dev/null || fail "cannot read the file: $3"
-fi
-
-newer=$(find "$root/crates" "$root/crates.txt" \( -name '*.rt' -o -name '*.antt' -o -name crates.txt \) -newer "$program" -print -quit 2>&1)
-if [ ! -x "$program" ] || [ -n "$newer" ]; then
-    build </dev/null
-fi
-
-# The first line says whether a value was found; what follows is the value, byte for byte.
-if [ "$command" = lookup ]; then
-    "$program" /dev/fd/3 /dev/fd/4 "$4" "$key" "$6" | {
-        IFS= read -r answer || fail "the program gave no answer"
-        printf '%s\n' "$answer"
-        cat
-        case $answer in
-        'Found '*) exit 0 ;;
-        *) exit 1 ;;
-        esac
-    }
-    exit
-fi
-if [ "$command" != check ]; then
-    exec "$program"
-fi
-answer=$("$program" | tail -n 1)
-printf '%s\n' "$answer"
-case $answer in
-'ok '*) exit 0 ;;
-*) exit 1 ;;
-esac
+exec "$program" "$@"

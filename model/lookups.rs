@@ -1,10 +1,10 @@
 //! Compares lookups: pairs of streams with few names and keys, and what is asked of them, mostly taken from them.
 
-use crate::archive;
 use crate::keyed::{keyed, Keyed};
 use crate::looked_up::{broken, kinds};
 use crate::readers::hex;
 use crate::tally::{Function, Tally};
+use crate::{archive, safe};
 use cdf_model::lookup::{lookup, Asked};
 use cdf_model::numbers;
 use cdf_model::random::Random;
@@ -29,6 +29,7 @@ pub fn compare_lookup(tally: &mut Tally, first: &[u8], second: &[u8], asked: &As
     if let Some(what) = broken(first, second, asked, &found) {
         tally.differ(what, &given(), "(not asked)", "does not agree with itself");
     }
+    safe::compare_lookup(tally, first, second, asked);
     tally.met(Function::Lookup, found.number);
     tally.looked_up(&kinds(first, second, asked));
     tally.count("lookups");

@@ -1,4 +1,4 @@
-//! Compares an archive of the library with the model on random streams, calls, places, requests and lookups.
+//! Compares an archive of the library, and the Rust crate over it, with the model on random streams, calls, places, requests and lookups.
 //!   diff SECONDS SEED   for so long
 //!   diff long SEED      until the figures of `LONG` are reached, with a progress line
 
@@ -12,6 +12,7 @@ mod lookups;
 mod places;
 mod pointed;
 mod readers;
+mod safe;
 mod tally;
 
 use cdf_model::cases::cases;
@@ -94,6 +95,7 @@ fn round(tally: &mut Tally) {
     readers::compare(tally, &stream, tree.as_ref(), random);
     builders::compare(tally, random);
     lookups::compare(tally, random);
+    safe::compare(tally, &stream);
     tally.round += 1;
 }
 
@@ -122,6 +124,7 @@ fn fixed(tally: &mut Tally) {
     for (_, bytes) in &cases {
         readers::compare_check(tally, bytes);
         readers::compare_explain(tally, bytes);
+        safe::compare(tally, bytes);
         tally.count("streams: the stored cases of the check");
     }
     builders::largest(tally);

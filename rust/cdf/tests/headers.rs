@@ -1,0 +1,150 @@
+//! What this crate declares is what the headers of include/ say: constants, ids, actions, and every parameter of every function.
+
+use std::collections::BTreeMap;
+use std::fs;
+
+use cdf::{Action, Id, Refusal};
+
+fn text(path: &str) -> String {
+    let top = concat!(env!("CARGO_MANIFEST_DIR"), "/../../");
+    fs::read_to_string(format!("{top}{path}")).unwrap()
+}
+
+/// The headers without comments.
+fn headers() -> String {
+    let all: String = ["cdf_numbers.h", "cdf.h", "cdf_build.h"].map(|name| text(&format!("include/{name}"))).concat();
+    all.split("/*").map(|part| part.split_once("*/").map_or(part, |(_, behind)| behind)).collect()
+}
+
+fn constants() -> BTreeMap<String, u64> {
+    let headers = headers();
+    let words = headers.lines().map(|line| line.split_whitespace().collect::<Vec<_>>());
+    words.filter(|words| words.len() == 3 && words[0] == "#define").map(|words| (words[1].to_string(), words[2].parse().unwrap())).collect()
+}
+
+/// `ErGroup` as `ER_GROUP`.
+fn shouted(name: &str) -> String {
+    let mut made = String::new();
+    for c in name.chars() {
+        if c.is_uppercase() && !made.is_empty() {
+            made.push('_');
+        }
+        made.extend(c.to_uppercase());
+    }
+    made
+}
+
+/// The constants that begin so, against names and numbers of an enum.
+fn same(front: &str, known: Vec<(String, u64)>) {
+    let said: BTreeMap<String, u64> = constants().into_iter().filter(|(name, _)| name.starts_with(front)).collect();
+    let known = known.into_iter().map(|(name, number)| (format!("{front}{}", shouted(&name)), number)).collect();
+    assert_eq!(said, known);
+}
+
+#[test]
+fn ids_and_actions_are_the_headers() {
+    same("CDF_ID_", Id::ALL.iter().map(|id| (format!("{id:?}"), id.number())).collect());
+    same("CDF_ACTION_", Action::ALL.iter().map(|action| (format!("{action:?}"), action.number())).collect());
+    for number in 0..300 {
+        assert_eq!(Id::from_number(number).map(Id::number), (1..=14).contains(&number).then_some(number));
+        assert_eq!(Action::from_number(number).map(Action::number), (number < 5).then_some(number));
+    }
+}
+
+#[test]
+fn every_refusal_has_words() {
+    let unknown = Refusal { number: 99, offset: None }.rule();
+    let refusals: Vec<u64> = constants().into_iter().filter(|(name, _)| name.starts_with("CDF_ERR_")).map(|(_, number)| number).collect();
+    assert_eq!(refusals.len(), 14);
+    for number in refusals {
+        assert_ne!(Refusal { number, offset: None }.rule(), unknown, "{number}");
+    }
+    assert_eq!(cdf::version(), constants()["CDF_VERSION"]);
+}
+
+/// A comment of sys.rs that names a constant stands over its number.
+#[test]
+fn lengths_are_the_headers() {
+    let (source, constants) = (text("rust/cdf/src/sys.rs"), constants());
+    let lines: Vec<&str> = source.lines().collect();
+    let mut met = 0;
+    for pair in lines.windows(2).filter(|pair| pair[0].contains("`CDF_")) {
+        let name = pair[0].split('`').nth(1).unwrap();
+        let number: String = pair[1].rsplit([';', '=']).find(|part| part.contains(|c: char| c.is_ascii_digit())).unwrap().into();
+        let digits: String = number.chars().filter(char::is_ascii_digit).collect();
+        assert_eq!(digits.parse(), Ok(constants[name]), "{name}");
+        met += 1;
+    }
+    assert_eq!(met, 6);
+}
+
+/// A parameter of C as Rust writes it.
+fn in_rust(parameter: &str, constants: &BTreeMap<String, u64>) -> String {
+    let (kind, name) = parameter.rsplit_once([' ', '*']).unwrap();
+    let (name, count) = name.trim_end_matches(']').split_once('[').map_or((name, None), |(name, count)| (name, Some(count)));
+    let kind = kind.trim();
+    let of = match (kind, count) {
+        ("uint64_t", Some(count)) | ("const uint64_t", Some(count)) => {
+            let numbers = count.parse().unwrap_or_else(|_| constants[count]);
+            format!("&{}[u64; {numbers}]", if kind.starts_with("const") { "" } else { "mut " })
+        }
+        ("const uint8_t", None) => "*const u8".to_string(),
+        ("uint8_t", None) => "*mut u8".to_string(),
+        ("size_t", None) => "usize".to_string(),
+        ("uint64_t", None) => "u64".to_string(),
+        other => format!("{other:?}"),
+    };
+    format!("{name}: {of}")
+}
+
+#[test]
+fn declarations_are_the_headers() {
+    let (source, headers, constants) = (text("rust/cdf/src/sys.rs"), headers(), constants());
+    let declared: String =
+        source.split("extern \"C\" {").nth(1).unwrap().split("\n    }").next().unwrap().split_whitespace().collect::<Vec<_>>().join(" ");
+    let mut declared = declared.replace(",)", ")");
+    for line in source.lines().filter_map(|line| line.strip_prefix("pub type ")) {
+        let (name, array) = line.trim_end_matches(';').split_once(" = ").unwrap();
+        declared = declared.replace(&format!("&mut {name}"), &format!("&mut {array}")).replace(&format!("&{name}"), &format!("&{array}"));
+    }
+    let mut missing = Vec::new();
+    for prototype in headers.split("uint64_t cdf_").skip(1) {
+        let (name, rest) = prototype.split_once('(').unwrap();
+        let parameters = rest.split_once(')').unwrap().0;
+        let parameters: Vec<String> =
+            parameters.split(',').map(str::trim).filter(|&one| one != "void").map(|one| in_rust(one, &constants)).collect();
+        let one_line = format!("pub fn cdf_{name}({}) -> u64;", parameters.join(", "));
+        let several = format!("pub fn cdf_{name}( {}, ) -> u64;", parameters.join(", "));
+        match declared.contains(&format!("pub fn cdf_{name}(")) {
+            true => assert!(declared.contains(&one_line) || declared.contains(&several), "{one_line}"),
+            false => missing.push(name.to_string()),
+        }
+    }
+    // A reader that is dropped is given up, and an iterator needs no log.
+    assert_eq!(missing, ["abnormal_end", "replay"]);
+    assert_eq!(declared.matches("pub fn ").count(), headers.matches("uint64_t cdf_").count() - missing.len());
+}
+
+/// Which kinds have names, values and numbers, and how long they are, is what the proved crate of own data says.
+#[test]
+fn own_data_is_the_crates() {
+    let source = text("crates/cdf_unit_data/src/lib.rt");
+    let arms = source.split("pub fn own_data").nth(1).unwrap();
+    let mut forms = BTreeMap::new();
+    for line in arms.lines().filter(|line| line.contains("=>") && !line.contains("_ =>")) {
+        let (ids, form) = line.split_once("=>").unwrap();
+        for id in ids.split('|') {
+            forms.insert(id.trim().to_string(), form.trim().trim_end_matches(',').to_string());
+        }
+    }
+    for id in Id::ALL {
+        let form = forms.remove(&shouted(&format!("{id:?}"))).unwrap_or_default();
+        assert_eq!(id.has_name(), form.starts_with("name"), "{id}");
+        assert_eq!(id.has_value(), form.contains("value"), "{id}");
+        let bytes = form.strip_prefix("numbers(").map_or(0, |behind| behind.split(',').next().unwrap().parse().unwrap());
+        assert_eq!(id.numbers() * 4, bytes, "{id}");
+    }
+    assert!(forms.is_empty(), "{forms:?}");
+    assert!(source.contains(&format!("if {} < count {{", cdf::NAME_MOST)));
+    assert!(source.contains(&format!("if s.len() <= k + {} {{", cdf::VALUE_MOST)));
+}

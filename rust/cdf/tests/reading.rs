@@ -1,0 +1,112 @@
+//! The reader on whole and on damaged bytes.
+
+use cdf::{Action, Builder, Id, Reader, Refusal, Root};
+
+/// A person and a relation of her to herself.
+fn group() -> Vec<u8> {
+    let mut buffer = [0; 300];
+    let mut group = Builder::new(&mut buffer, Root::ErGroup).unwrap();
+    group.template(Action::Create, "PERSON").unwrap().temporary_key(7).unwrap();
+    group.field(Action::Update, "SURNAME", b"Lind").unwrap();
+    group.ordered_relation(Action::Create, 5, 9).unwrap();
+    group.entity_key("PERSON").unwrap().temporary_key(7).unwrap();
+    group.relation_key(3).unwrap();
+    group.finish().unwrap().to_vec()
+}
+
+/// A call, and behind it a group.
+fn calls(group: &[u8]) -> Vec<u8> {
+    let mut buffer = vec![0; 1000];
+    let mut stream = Builder::new(&mut buffer, Root::Stream).unwrap();
+    stream.call("MERGE").unwrap().parameter("MODE", b"\xFF").unwrap();
+    stream.add_stream(group).unwrap().call("DONE").unwrap();
+    stream.finish().unwrap().to_vec()
+}
+
+#[test]
+fn units_say_what_was_built() {
+    let stream = group();
+    let units: Vec<_> = Reader::new(&stream).collect::<Result<_, _>>().unwrap();
+    let ids: Vec<Id> = units.iter().map(|unit| unit.id()).collect();
+    let due =
+        [Id::ErGroup, Id::Template, Id::TemporaryKey, Id::Field, Id::OrderedRelation, Id::EntityKey, Id::TemporaryKey, Id::RelationKey];
+    assert_eq!(ids, due);
+    assert_eq!((units[1].name(), units[1].action(), units[1].value()), (Some("PERSON"), Action::Create, None));
+    assert_eq!((units[2].number(), units[2].name()), (Some(7), None));
+    assert_eq!((units[3].name(), units[3].value(), units[3].action()), (Some("SURNAME"), Some(&b"Lind"[..]), Action::Update));
+    assert_eq!((units[4].number(), units[4].position()), (Some(5), Some(9)));
+    assert_eq!((units[7].number(), units[7].position()), (Some(3), None));
+    assert_eq!((units[0].bytes(), units[0].end()), (&stream[..], stream.len()));
+    assert_eq!(units[1].own_end(), units[2].start());
+}
+
+/// Of every front of a stream, and of every stream with one byte changed, the reader ends as the check does.
+#[test]
+fn damaged_bytes_end_as_the_check_says() {
+    let whole = calls(&group());
+    let mut tried: Vec<Vec<u8>> = (0..whole.len()).map(|length| whole[..length].to_vec()).collect();
+    for at in 0..whole.len() {
+        for byte in [0, 1, 0x41, 0xFF, whole[at] ^ 0x80] {
+            let mut stream = whole.clone();
+            stream[at] = byte;
+            tried.push(stream);
+        }
+    }
+    let mut refused = 0;
+    for stream in &tried {
+        let read: Vec<_> = Reader::new(stream).collect();
+        match cdf::check(stream) {
+            Ok(units) => assert!(read.len() == units && read.iter().all(Result::is_ok)),
+            Err(refusal) => {
+                refused += 1;
+                let (last, before) = read.split_last().unwrap();
+                assert_eq!(*last, Err(refusal));
+                assert!(before.iter().all(Result::is_ok));
+                assert_eq!(cdf::explain(stream).unwrap().refusal, refusal);
+                let line = format!("refused {} at {}\n", refusal.number, refusal.offset.unwrap());
+                assert_eq!(cdf::listing(stream), line);
+            }
+        }
+    }
+    assert!(refused > 500, "{refused}");
+}
+
+const NOTHING: Refusal = Refusal { number: 11, offset: None };
+
+#[test]
+fn skipping_taking_and_repeating() {
+    let inner = group();
+    let stream = calls(&inner);
+    let mut reader = Reader::new(&stream);
+    assert_eq!(reader.skip_unit(), Err(NOTHING));
+    assert_eq!(reader.take_group(), Err(NOTHING));
+    assert_eq!(reader.previous(), Err(NOTHING));
+    assert_eq!(reader.next().unwrap().unwrap().id(), Id::Stream);
+    assert_eq!(reader.take_group(), Err(NOTHING), "it is no group");
+    let call = reader.next().unwrap().unwrap();
+    assert_eq!(reader.previous(), Ok(call));
+    reader.skip_unit().unwrap();
+    assert_eq!(reader.skip_unit(), Err(NOTHING), "it is passed already");
+    let found = reader.next().unwrap().unwrap();
+    assert_eq!(found.id(), Id::ErGroup);
+    let taken = reader.take_group().unwrap();
+    assert_eq!((taken, found.bytes()), (&inner[..], &inner[..]));
+    let last = reader.next().unwrap().unwrap();
+    assert_eq!((last.id(), last.name()), (Id::Call, Some("DONE")));
+    assert!(reader.next().is_none());
+    assert!(reader.next().is_none());
+    // The group is a part of the stream, and not of the reader.
+    assert_eq!(cdf::check(taken), Ok(8));
+}
+
+#[test]
+fn what_is_skipped_is_not_looked_at() {
+    let mut stream = calls(&group());
+    let at = stream.windows(4).position(|four| four == b"MODE").unwrap();
+    stream[at] = b'!';
+    assert_eq!(cdf::check(&stream).unwrap_err().number, 9);
+    let mut reader = Reader::new(&stream);
+    assert_eq!(reader.by_ref().take(2).filter(Result::is_ok).count(), 2);
+    reader.skip_unit().unwrap();
+    assert!(reader.all(|unit| unit.is_ok()));
+}
