@@ -153,13 +153,15 @@ impl Totals {
 struct Bar {
     files: usize,
     began: Instant,
+    /// When it was last drawn, and whether it stands there now.
     shown: Option<Instant>,
+    there: bool,
     wanted: bool,
 }
 
 impl Bar {
     fn new(files: usize) -> Bar {
-        Bar { files, began: Instant::now(), shown: None, wanted: io::stderr().is_terminal() && files > 1 }
+        Bar { files, began: Instant::now(), shown: None, there: false, wanted: io::stderr().is_terminal() && files > 1 }
     }
 
     fn step(&mut self, done: usize) {
@@ -169,13 +171,15 @@ impl Bar {
             let full = done * 30 / self.files;
             complain(&format!("\r[{}{}] {done} of {} files", "#".repeat(full), " ".repeat(30 - full), self.files));
             self.shown = Some(Instant::now());
+            self.there = true;
         }
     }
 
     /// Takes the bar away, so that what is written next has the line for itself.
     fn clear(&mut self) {
-        if self.shown.is_some() && self.wanted {
+        if self.there {
             complain("\r\x1b[K");
+            self.there = false;
         }
     }
 }
