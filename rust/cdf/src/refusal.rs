@@ -43,7 +43,7 @@ impl Refusal {
             8 => "this unit may not have this action",
             9 => "a name, a value or a number inside the unit is not of the right form",
             10 => "a unit ends without what it must have",
-            11 => "there is nothing to skip, take, repeat or read on from",
+            11 => "nothing is there to pass, to take, to hand out again or to go on from",
             12 => "there is too little room",
             13 => "the stream would be longer than 65,535 bytes",
             14 => "what was to be added is no group that the check accepts",
