@@ -20,4 +20,5 @@ pub mod reader;
 pub mod rules;
 pub mod samples;
 pub mod streams;
+pub mod tree;
 pub mod units;

@@ -15,7 +15,7 @@ use Rattle.cdf_unit_table.proofs.Tests.{all, below-at, not-member}
 use Rattle.cdf_unit_prefix.specs.Layout.{Layout, prefixOf}
 use Rattle.cdf_grammar.specs.Encoding.{Item, unitBytes}
 use Rattle.cdf_builder_spec.specs.Requests.{Request, unit, bytesFor}
-use Rattle.cdf_builder_spec.specs.Calls.{Reply, Decision, noPlace, startNumber, startOf, decideOf, writeOf, callOf}
+use Rattle.cdf_builder_spec.specs.Calls.{Reply, Decision, noBuilderPlace, startNumber, startOf, decideOf, writeOf, callOf}
 use Rattle.cdf_builder_spec.specs.Place.{BuilderPlace}
 use Rattle.cdf_builder_spec.proofs.Replying.{bytes-unit}
 use Rattle.cdf_builder_spec.specs.Slots.{placed}
@@ -71,19 +71,19 @@ unit-bytes l n p u b d e =
     rw (id-byte (u .id) (w .0), action-byte (u .id) (u .action) (w .0) (w .1)) (sym (bytes-unit l u))
 
 module _ (l : Layout) (s : List ℕ) (id : ℕ) where
-  refused : (k : ℕ) → startNumber l (length s) id ≡ k → (k ≡ 0 → ⊥) → startOf l s id ≡ record { number = k; place = noPlace; buffer = s }
+  refused : (k : ℕ) → startNumber l (length s) id ≡ k → (k ≡ 0 → ⊥) → startOf l s id ≡ record { number = k; place = noBuilderPlace; buffer = s }
   unfolding startOf
   refused k e some = rw (e, ne-eqb k 0 some)
 
-  pub start-unknown : known id ≡ false → startOf l s id ≡ record { number = 6; place = noPlace; buffer = s }
+  pub start-unknown : known id ≡ false → startOf l s id ≡ record { number = 6; place = noBuilderPlace; buffer = s }
   unfolding startNumber
   start-unknown k = refused 6 (rw k) (λ e. omega arith)
 
-  pub start-inner : known id ≡ true → rootKind id ≡ false → startOf l s id ≡ record { number = 7; place = noPlace; buffer = s }
+  pub start-inner : known id ≡ true → rootKind id ≡ false → startOf l s id ≡ record { number = 7; place = noBuilderPlace; buffer = s }
   unfolding startNumber
   start-inner k r = refused 7 (rw (k, r)) (λ e. omega arith)
 
   pub start-full : known id ≡ true → rootKind id ≡ true → length s < prefixOf l →
-      startOf l s id ≡ record { number = 12; place = noPlace; buffer = s }
+      startOf l s id ≡ record { number = 12; place = noBuilderPlace; buffer = s }
   unfolding startNumber
   start-full k r h = refused 12 (rw (k, r, lt-ltb (length s) (prefixOf l) h)) (λ e. omega arith)

@@ -17,7 +17,7 @@ use Rattle.cdf_grammar.specs.Encoding.{Item}
 use Rattle.cdf_unit_list.specs.Check.{checkOf}
 use Rattle.cdf_reader_spec.specs.Calls.{isGroup}
 use Rattle.cdf_builder_spec.specs.Place.{BuilderPlace, fits}
-use Rattle.cdf_builder_spec.specs.Requests.{Request, unit, group, idOf, bytesFor, joining, ending, completed, joined, rightData, acceptedGroup, refused}
+use Rattle.cdf_builder_spec.specs.Requests.{Request, unit, group, idOf, bytesFor, joining, ending, completed, joinNumber, rightData, acceptedGroup, refused}
 use Rattle.cdf_builder_spec.specs.Requests.{advanced, entering, grown}
 use Rattle.cdf_builder_spec.specs.Calls.{Decision, room, callNumber, decideOf}
 use Rattle.cdf_builder_spec.specs.declared.Begun.{Begun}
@@ -43,8 +43,8 @@ two-tests m n next d e true b = rw d
 two-tests m n next d e false true = rw e
 two-tests m n next d e false false = refl
 
-joined-next : (os : List Begun) (id next : ℕ) → joined os id next ≡ orElse (joined os id 0) next
-unfolding joined
+joined-next : (os : List Begun) (id next : ℕ) → joinNumber os id next ≡ orElse (joinNumber os id 0) next
+unfolding joinNumber
 joined-next os id next = two-tests 7 10 next refl refl (eqb (length (joining id os)) 0) (not (completed (ending id os)))
 
 module _ (l : Layout) (n : ℕ) (p : BuilderPlace) (r : Request) where
@@ -76,17 +76,17 @@ module _ (l : Layout) (n : ℕ) (p : BuilderPlace) (u : Item) (f : fits l n p �
   Room = room l n (p .written + length (bytesFor l (unit u)))
 
   module _ (k : known (u .id) ≡ true) where
-    by-faults : Number ≡ orElse (joined (p .units) (u .id) 0) (orElse (ownFault (u .id) (u .action) (u .text)) Room)
+    by-faults : Number ≡ orElse (joinNumber (p .units) (u .id) 0) (orElse (ownFault (u .id) (u .action) (u .text)) Room)
     unfolding refused ownFault
     by-faults =
         call-fitting l n p (unit u) f ∙ rw k (joined-next (p .units) (u .id) _)
-        ∙ ap (orElse (joined (p .units) (u .id) 0))
+        ∙ ap (orElse (joinNumber (p .units) (u .id) 0))
         (two-tests 8 9 Room refl refl (not (actionAllowed (u .id) (u .action))) (not (rightData (u .id) (u .text))))
 
-    pub not-joined : (m : ℕ) → m ≡ joined (p .units) (u .id) 0 → (m ≡ 0 → ⊥) → Number ≡ m
+    pub not-joined : (m : ℕ) → m ≡ joinNumber (p .units) (u .id) 0 → (m ≡ 0 → ⊥) → Number ≡ m
     not-joined m is some = by-faults ∙ rw (← is, ne-eqb m 0 some)
 
-    module _ (j : joined (p .units) (u .id) 0 ≡ 0) where
+    module _ (j : joinNumber (p .units) (u .id) 0 ≡ 0) where
       pub wrong : (m : ℕ) → m ≡ ownFault (u .id) (u .action) (u .text) → (m ≡ 0 → ⊥) → Number ≡ m
       wrong m is some = by-faults ∙ rw (j, ← is, ne-eqb m 0 some)
 
@@ -119,16 +119,16 @@ module _ (l : Layout) (n : ℕ) (p : BuilderPlace) (g : List ℕ) (f : fits l n 
   no-group e = call-fitting l n p (group g) f ∙ rw (group-none l g e)
 
   module _ (id : ℕ) (is : id ≡ groupId l g) (some : id ≡ 0 → ⊥) where
-    by-joined : GroupNumber ≡ orElse (joined (p .units) id 0) (room l n (p .written + length g))
+    by-joined : GroupNumber ≡ orElse (joinNumber (p .units) id 0) (room l n (p .written + length g))
     unfolding refused bytesFor
     by-joined =
         let w = group-some l g (λ z. some (is ∙ z)) in
         call-fitting l n p (group g) f ∙ rw (w .0, ← w .1, ← is) (joined-next (p .units) id _)
 
-    pub group-not-joined : (m : ℕ) → m ≡ joined (p .units) id 0 → (m ≡ 0 → ⊥) → GroupNumber ≡ m
+    pub group-not-joined : (m : ℕ) → m ≡ joinNumber (p .units) id 0 → (m ≡ 0 → ⊥) → GroupNumber ≡ m
     group-not-joined m e other = by-joined ∙ rw (← e, ne-eqb m 0 other)
 
-    pub group-joined : joined (p .units) id 0 ≡ 0 → GroupNumber ≡ room l n (p .written + length g)
+    pub group-joined : joinNumber (p .units) id 0 ≡ 0 → GroupNumber ≡ room l n (p .written + length g)
     group-joined e = by-joined ∙ rw e
 
 entered-as : (b : Bool) (os : List Begun) → cond (not b) os [] ≡ cond b [] os
@@ -147,7 +147,7 @@ module _ (l : Layout) (n : ℕ) (p : Parts) (count : ℕ) (top : Begun) where
       growing l n p count top size first ≡ decideOf l n (placed p) r
   grows r size first g = sym (decided l n (placed p) r _ (g .number) ∙ rw (g .place))
 
-  module _ (f : fits l n (placed p) ≡ true) (id : ℕ) (j : joined (placed p .units) id 0 ≡ 0)
+  module _ (f : fits l n (placed p) ≡ true) (id : ℕ) (j : joinNumber (placed p .units) id 0 ≡ 0)
       (left : units count top (p .o1) (p .o2) (p .o3) ≡ advanced id (joining id (placed p .units))) where
     -- An id that is joined leaves a unit open.
     left-some : 1 ≤ count
@@ -194,7 +194,7 @@ sum-fits e n p size f small = omega (arith, fitting (layoutOf e) n p f .limit, m
 -- An action that is decided with 0 is allowed, and its id is known.
 pub allowed : (l : Layout) (n : ℕ) (p : BuilderPlace) (u : Item) → callNumber l n p (unit u) ≡ 0 →
     (known (u .id) ≡ true) × (actionAllowed (u .id) (u .action) ≡ true)
-unfolding callNumber refused joined
+unfolding callNumber refused joinNumber
 allowed l n p u e =
     let a = past (not (fits l n p)) 2 _ (λ z. omega arith) e in
     let b = past (not (known (u .id))) 6 _ (λ z. omega arith) (a .1) in

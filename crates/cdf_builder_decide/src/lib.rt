@@ -2,7 +2,7 @@
 ghost use mathlib.Core.Path.{_≡_};
 ghost use Prim.Native.Nat.{_+_, _≤_, _<_};
 ghost use Rattle.cdf_unit_prefix.specs.Layout.{layoutOf};
-ghost use Rattle.cdf_builder_spec.specs.Requests.{unit, group, joining, joined, advanced};
+ghost use Rattle.cdf_builder_spec.specs.Requests.{unit, group, joining, joinNumber, advanced};
 ghost use Rattle.cdf_builder_spec.specs.Calls.{decideOf};
 ghost use Rattle.cdf_builder_spec.specs.Slots.{units, placed};
 ghost use Rattle.cdf_builder_decide.specs.Grown.{decisionOf, grownBy, Growable, growing};
@@ -27,7 +27,7 @@ pub struct Decided {
 
 // Where a unit of this id joins.
 fn join_place(p: Parts, id: usize) -> Joined
-    ensures number { λ r. ⌜ r .number ≡ joined (placed p .units) id 0 ⌝ }
+    ensures number { λ r. ⌜ r .number ≡ joinNumber (placed p .units) id 0 ⌝ }
     ensures left { λ r. ⌜ units (r .count) (r .top) (p .o1) (p .o2) (p .o3) ≡ advanced id (joining id (placed p .units)) ⌝ }
 {
     let top = p.top;

@@ -20,7 +20,7 @@ use Rattle.cdf_grammar.specs.Published.{Among}
 use Rattle.cdf_reader_spec.specs.Place.{nested}
 use Rattle.cdf_reader_spec.proofs.Fitting.{Kinds}
 use Rattle.cdf_builder_spec.specs.Place.{BuilderPlace, stands, standing, fits}
-use Rattle.cdf_builder_spec.specs.Requests.{Request, unit, group, idOf, joining, joined, refused}
+use Rattle.cdf_builder_spec.specs.Requests.{Request, unit, group, idOf, joining, joinNumber, refused}
 use Rattle.cdf_builder_spec.specs.Calls.{Reply}
 use Rattle.cdf_builder_spec.specs.declared.Begun.{Begun}
 use Rattle.cdf_builder_spec.proofs.Fitting.{fitting}
@@ -73,7 +73,7 @@ no-call l (group g) w z = go (group-kind (idAt l g) (w .1)) z
     go (inr (inl k)) z = omega (arith, k, z)
 
 seven : (l : Layout) (os : List Begun) (r : Request) (next : ℕ) → NoCall l r → joining (idOf l r) os ≡ [] → refused l os r next ≡ 7
-unfolding refused joined idOf
+unfolding refused joinNumber idOf
 seven l os (unit u) next w none = rw (w .0, none)
 seven l os (group g) next w none = rw (w .0, w .1, none)
 

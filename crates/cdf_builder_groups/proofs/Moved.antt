@@ -14,13 +14,13 @@ use Rattle.cdf_grammar.specs.Claims.{itemsOf}
 use Rattle.cdf_grammar.proofs.Proved.{proved}
 use Rattle.cdf_builder_spec.specs.Requests.{Request, group}
 use Rattle.cdf_builder_spec.specs.Calls.{Finish}
-use Rattle.cdf_builder_runs.specs.Runs.{sizes, told, AllLent}
+use Rattle.cdf_builder_runs.specs.Runs.{sizes, requested, AllLent}
 use Rattle.cdf_builder_runs.specs.Building.{Building, andThen, layout, asked, first, last, finish, AllZero}
 use Rattle.cdf_builder_runs.specs.Telling.{Tells}
 use Rattle.cdf_builder_groups.specs.Claims.{movedBy}
 use Rattle.cdf_builder_runs.proofs.Answers.{done-front}
 use Rattle.cdf_builder_runs.proofs.Building.{written, whole-by, accepted, builds}
-use Rattle.cdf_builder_runs.proofs.Said.{stream-says, told-append, told-group, told-says}
+use Rattle.cdf_builder_runs.proofs.Said.{stream-says, requested-append, requested-group, requested-says}
 use Rattle.cdf_builder_groups.proofs.Stand.{moved-list, Stands, stands}
 
 -- Two lists, one after the other, cut where the first ends.
@@ -60,27 +60,27 @@ module _ (e : Edition) (front : List ℕ) (t : Forest) (whole : Stream (layoutOf
   item : Unit → Item
   item = itemOf l front
 
-  said : map item before ++ (map item moved ++ map item after) ≡ told l xs ++ (itemsOf l g ++ told l ys)
+  said : map item before ++ (map item moved ++ map item after) ≡ requested l xs ++ (itemsOf l g ++ requested l ys)
   unfolding itemsOf item
   said =
       sym (map-append item before (moved ++ after) ∙ ap (λ us. map item before ++ us) (map-append item moved after))
       ∙ ap (map item) (sym listed)
       ∙ stream-says e front t whole
-      ∙ told-says e t (xs ++ (group g ∷ ys)) tells
-      ∙ told-append l xs (group g ∷ ys)
-      ∙ ap (λ us. told l xs ++ us) (told-group l g ys)
+      ∙ requested-says e t (xs ++ (group g ∷ ys)) tells
+      ∙ requested-append l xs (group g ∷ ys)
+      ∙ ap (λ us. requested l xs ++ us) (requested-group l g ys)
 
   long : length (map item moved) ≡ length (itemsOf l g)
   unfolding itemsOf
   long = simp length-map
 
-  said-before : map item before ≡ told l xs
-  said-before = cut (map item before) _ (told l xs) _ (simp length-map (here .count)) said .0
+  said-before : map item before ≡ requested l xs
+  said-before = cut (map item before) _ (requested l xs) _ (simp length-map (here .count)) said .0
 
-  said-after : map item after ≡ told l ys
+  said-after : map item after ≡ requested l ys
   said-after =
-      let rest = cut (map item before) _ (told l xs) _ (simp length-map (here .count)) said .1 in
-      cut (map item moved) (map item after) (itemsOf l g) (told l ys) long rest .1
+      let rest = cut (map item before) _ (requested l xs) _ (simp length-map (here .count)) said .1 in
+      cut (map item moved) (map item after) (itemsOf l g) (requested l ys) long rest .1
 
 module _ (b : Building) (g : List ℕ) (ys : List Request) where
   -- With the group and what comes after it.
@@ -91,8 +91,8 @@ module _ (b : Building) (g : List ℕ) (ys : List Request) where
   Amid front =
       (before : List Unit) × (after : List Unit)
       × (listing (layout b) front .units ≡ before ++ (map (movedBy (last b .place .written)) (listing (layout b) g .units) ++ after))
-      × (map (itemOf (layout b) front) before ≡ told (layout b) (asked b))
-      × (map (itemOf (layout b) front) after ≡ told (layout b) ys)
+      × (map (itemOf (layout b) front) before ≡ requested (layout b) (asked b))
+      × (map (itemOf (layout b) front) after ≡ requested (layout b) ys)
 
   amid : AllLent (all .calls) → AllZero all → finish all .number ≡ 0 → (front : List ℕ) → front ≡ take (finish all .length) (last all .buffer) →
       Amid front

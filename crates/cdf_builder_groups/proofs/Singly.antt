@@ -13,7 +13,7 @@ use Rattle.cdf_unit_table.specs.States.{admit, nothing, opens, rootKind}
 use Rattle.cdf_unit_table.proofs.Rows.{root-opens, opens-by}
 use Rattle.cdf_unit_prefix.specs.Layout.{Layout, layoutOf, idAt, prefixOf}
 use Rattle.cdf_unit_prefix.specs.declared.Edition.{Edition}
-use Rattle.cdf_unit_list.specs.Check.{Answer}
+use Rattle.cdf_unit_list.specs.Check.{Verdict}
 use Rattle.cdf_unit_list.specs.Units.{listing, after}
 use Rattle.cdf_unit_list.specs.declared.Unit.{Unit}
 use Rattle.cdf_grammar.specs.Trees.{Forest, none, tree, ids}
@@ -177,7 +177,7 @@ module _ (e : Edition) (a : Reply) (g : List ℕ) (bytes : Bytes g) (begun : a .
   leads : Leads l p units had (joins .outer)
   unfolding ids through
   leads =
-      over l (λ s t q. ap (λ (x : Answer). x .number) (proved .streams e .counted s t q)) root (stream .tree .conforms) units tells p o
+      over l (λ s t q. ap (λ (x : Verdict). x .number) (proved .streams e .counted s t q)) root (stream .tree .conforms) units tells p o
       (joins .outer) at (joins .admitted)
 
   each : AllDone l a units

@@ -15,11 +15,11 @@ use Rattle.cdf_grammar.specs.Encoding.{Stream, encode, list, ownLength, Item, s
 use Rattle.cdf_grammar.proofs.Built.{encode-none}
 use Rattle.cdf_builder_spec.specs.Requests.{Request, unit, group}
 use Rattle.cdf_builder_spec.proofs.Replying.{unit-size}
-use Rattle.cdf_builder_runs.specs.Runs.{sizes, told}
+use Rattle.cdf_builder_runs.specs.Runs.{sizes, requested}
 use Rattle.cdf_builder_runs.specs.Telling.{Tells}
 use Rattle.cdf_builder_groups.specs.Claims.{movedBy}
 use Rattle.cdf_builder_runs.proofs.Rooms.{sizes-end, sizes-on}
-use Rattle.cdf_builder_runs.proofs.Said.{told-append, told-says, told-none, told-unit}
+use Rattle.cdf_builder_runs.proofs.Said.{requested-append, requested-says, requested-none, requested-unit}
 use Rattle.cdf_builder_groups.proofs.Told.{sizes-append, tree-size, tells-sizes}
 
 -- An element of two lists, one after the other, is in the first or in the second.
@@ -101,7 +101,7 @@ module _ (l : Layout) where
     pub before : List Unit
     pub after : List Unit
     pub parts : list l at f ≡ before ++ (list l (at + sizes l xs) root ++ after)
-    pub count : length before ≡ length (told l xs)
+    pub count : length before ≡ length (requested l xs)
 
 module _ (e : Edition) (g : List ℕ) where
   abbrev l : Layout
@@ -126,7 +126,7 @@ module _ (e : Edition) (g : List ℕ) where
           after = s .after;
           parts = rw (list-first l at id action text inner rest, s .parts, there) (sym (append-assoc (list l at alone) (s .before) _));
           count =
-              rw (length-append, s .count, list-count l at alone, told-says e alone hs tells, told-append l hs m, length-append);
+              rw (length-append, s .count, list-count l at alone, requested-says e alone hs tells, requested-append l hs m, length-append);
         }
 
     -- or in it.
@@ -144,7 +144,7 @@ module _ (e : Edition) (g : List ℕ) where
           parts =
               rw (list-tree l at id action text inner rest, s .parts, there)
               (simp append-assoc);
-          count = rw (told-unit l u m, s .count);
+          count = rw (requested-unit l u m, s .count);
         }
 
   stands-first : (id action : ℕ) (text : List ℕ) (inner rest : Forest) (at : ℕ) → Stream l g (tree id action text inner none) →
@@ -157,7 +157,7 @@ module _ (e : Edition) (g : List ℕ) where
         before = [];
         after = list l (end at id action text inner rest) rest;
         parts = rw here (list-first l at id action text inner rest);
-        count = rw (told-none l);
+        count = rw (requested-none l);
       }
 
   -- Wherever the group is told, its units stand, as far from the front as the requests before it take.

@@ -17,7 +17,7 @@ use Rattle.cdf_reader_spec.specs.Calls.{isGroup}
 use Rattle.cdf_builder_spec.specs.Requests.{Request, unit, group, completed}
 use Rattle.cdf_builder_spec.specs.Calls.{Reply}
 use Rattle.cdf_builder_spec.specs.declared.Begun.{Begun}
-use Rattle.cdf_builder_runs.specs.Runs.{answer, run, AllDone, told, AllLent}
+use Rattle.cdf_builder_runs.specs.Runs.{answer, run, AllDone, requested, AllLent}
 use Rattle.cdf_builder_runs.specs.Building.{Building, andThen, layout, asked, last, finish, AllZero}
 
 -- After the answer `a` the group may as well be added by a call for each of its units.
@@ -54,5 +54,5 @@ pub record Claims : Type 0 where
       finish c .number ≡ 0 → (front : List ℕ) → front ≡ take (finish c .length) (last c .buffer) →
       (before : List Unit) × (after : List Unit)
       × (listing (layout b) front .units ≡ before ++ (map (movedBy (last b .place .written)) (listing (layout b) g .units) ++ after))
-      × (map (itemOf (layout b) front) before ≡ told (layout b) (asked b))
-      × (map (itemOf (layout b) front) after ≡ told (layout b) ys)
+      × (map (itemOf (layout b) front) before ≡ requested (layout b) (asked b))
+      × (map (itemOf (layout b) front) after ≡ requested (layout b) ys)

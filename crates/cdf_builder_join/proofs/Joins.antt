@@ -8,7 +8,7 @@ use borrow.Author.Tests.{eq-eqb, ne-eqb}
 use lib.ListN.{length}
 use Rattle.cdf_unit_table.specs.States.{admit, complete}
 use Rattle.cdf_reader_spec.specs.Slots.{heldOf}
-use Rattle.cdf_builder_spec.specs.Requests.{joining, ending, completed, joined, advanced}
+use Rattle.cdf_builder_spec.specs.Requests.{joining, ending, completed, joinNumber, advanced}
 use Rattle.cdf_builder_spec.specs.Slots.{noBegun, units}
 use Rattle.cdf_builder_spec.specs.declared.Begun.{Begun}
 use Rattle.cdf_builder_spec.proofs.Joining.{joins-over}
@@ -41,9 +41,9 @@ module _ (id : ℕ) (before : List Begun) (o1 o2 o3 : Begun) where
   -- The unit that admits the id is then in its next state.
   pub found : {left : ℕ} {inner : Begun} {full : Bool} → Going left inner full → 0 < left → (next : ℕ) → next ≡ admit (inner .state) id →
       (next ≡ 0 → ⊥) →
-      (joined before id 0 ≡ cond (not full) 10 0)
+      (joinNumber before id 0 ≡ cond (not full) 10 0)
       × (units left (record { state = next; start = inner .start }) o1 o2 o3 ≡ advanced id (joining id before))
-  unfolding joined completed advanced
+  unfolding joinNumber completed advanced
   found {left} {inner} {full} g some next is other =
       let rest = outside left o1 o2 o3 in
       let first = units-first o1 o2 o3 left inner rest some refl in
@@ -54,8 +54,8 @@ module _ (id : ℕ) (before : List Begun) (o1 o2 o3 : Begun) where
       )
 
   pub none : {left : ℕ} {inner : Begun} {full : Bool} → Going left inner full → left ≤ 0 →
-      (joined before id 0 ≡ 7) × (units left noBegun o1 o2 o3 ≡ advanced id (joining id before))
-  unfolding joined joining advanced heldOf
+      (joinNumber before id 0 ≡ 7) × (units left noBegun o1 o2 o3 ≡ advanced id (joining id before))
+  unfolding joinNumber joining advanced heldOf
   none {left = zero} g h = (rw (g .same), rw (g .same))
   none {left = suc k} g h = absurd (omega arith)
 

@@ -2,7 +2,7 @@
 // A place is taken by its parts, which the builder's struct holds.
 ghost use mathlib.Core.Path.{_≡_};
 ghost use Rattle.cdf_unit_prefix.specs.Layout.{layoutOf};
-ghost use Rattle.cdf_builder_spec.specs.Requests.{joining, completed, joined, advanced};
+ghost use Rattle.cdf_builder_spec.specs.Requests.{joining, completed, joinNumber, advanced};
 ghost use Rattle.cdf_builder_spec.specs.Calls.{room};
 ghost use Rattle.cdf_builder_spec.specs.Slots.{noBegun, units};
 ghost use Rattle.cdf_builder_join.specs.Parts.{outside, ownFault, groupId};
@@ -46,7 +46,7 @@ fn around(count: usize, o1: Begun, o2: Begun, o3: Begun) -> Begun
 
 // Joins the innermost open unit that admits the id: 7 and a unit of zeros where none does, 10 where one inside it is incomplete.
 pub fn join(id: usize, count: usize, top: Begun, o1: Begun, o2: Begun, o3: Begun) -> Joined
-    ensures number { λ r. ⌜ r .number ≡ joined (units count top o1 o2 o3) id 0 ⌝ }
+    ensures number { λ r. ⌜ r .number ≡ joinNumber (units count top o1 o2 o3) id 0 ⌝ }
     ensures left { λ r. ⌜ units (r .count) (r .top) o1 o2 o3 ≡ advanced id (joining id (units count top o1 o2 o3)) ⌝ }
     ensures nowhere { λ r. ⌜ (r .number ≡ 7 → r .top ≡ noBegun) ⌝ }
 {

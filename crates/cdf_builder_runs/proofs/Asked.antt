@@ -24,7 +24,7 @@ use Rattle.cdf_grammar.proofs.Prefixes.{id-read}
 use Rattle.cdf_grammar.proofs.Unique.{unit-parts}
 use Rattle.cdf_reader_spec.specs.Calls.{isGroup}
 use Rattle.cdf_builder_spec.specs.declared.Begun.{Begun}
-use Rattle.cdf_builder_spec.specs.Requests.{unit, group, joined, wholeData, rightData, refused}
+use Rattle.cdf_builder_spec.specs.Requests.{unit, group, joinNumber, wholeData, rightData, refused}
 
 right-is : (id : ℕ) (text : List ℕ) → rightData id text ≡ wholeData id text (ownData id text)
 unfolding rightData
@@ -44,26 +44,26 @@ right id text is =
     go false o = refl
 
 module _ (l : Layout) (os : List Begun) where
-  refused-unit : (u : Item) → known (u .id) ≡ true → joined os (u .id) 0 ≡ 0 → actionAllowed (u .id) (u .action) ≡ true →
+  refused-unit : (u : Item) → known (u .id) ≡ true → joinNumber os (u .id) 0 ≡ 0 → actionAllowed (u .id) (u .action) ≡ true →
       rightData (u .id) (u .text) ≡ true → refused l os (unit u) 0 ≡ 0
   unfolding refused
   refused-unit u k j a r = rw (k, a, r) j
 
   -- A unit that follows its production.
-  pub unit-asked : (id action : ℕ) (text : List ℕ) (inner : Forest) → Follows id action text inner → joined os id 0 ≡ 0 →
+  pub unit-asked : (id action : ℕ) (text : List ℕ) (inner : Forest) → Follows id action text inner → joinNumber os id 0 ≡ 0 →
       refused l os (unit (record { id = id; action = action; text = text })) 0 ≡ 0
   unit-asked id action text inner f j =
       let allowed = acts-agree id action .0 (f .acts) in
       refused-unit (record { id = id; action = action; text = text }) (acts-known id action allowed) j allowed (right id text (f .says))
 
-  refused-group : (g : List ℕ) → checkOf l g .number ≡ 0 → isGroup (idAt l g) ≡ true → joined os (idAt l g) 0 ≡ 0 →
+  refused-group : (g : List ℕ) → checkOf l g .number ≡ 0 → isGroup (idAt l g) ≡ true → joinNumber os (idAt l g) 0 ≡ 0 →
       refused l os (group g) 0 ≡ 0
   unfolding refused
   refused-group g c k j = rw (c, k) j
 
   -- The bytes of a group, which the check accepts.
   pub group-asked : (g : List ℕ) → checkOf l g .number ≡ 0 → (id : ℕ) → idAt l g ≡ id → Among id (erGroup ∷ fileGroup ∷ []) →
-      joined os id 0 ≡ 0 → refused l os (group g) 0 ≡ 0
+      joinNumber os id 0 ≡ 0 → refused l os (group g) 0 ≡ 0
   group-asked g c id e kind j = refused-group g c (rw e (is kind)) (rw e j)
     where
       is : Among id (erGroup ∷ fileGroup ∷ []) → isGroup id ≡ true

@@ -9,7 +9,7 @@ use lib.ListN.{length, take, length-take}
 use Rattle.cdf_unit_prefix.specs.Layout.{Layout, layoutOf, prefixOf}
 use Rattle.cdf_unit_prefix.specs.declared.Edition.{Edition}
 use Rattle.cdf_unit_list.specs.Units.{listing}
-use Rattle.cdf_unit_list.specs.Check.{Answer, checkOf}
+use Rattle.cdf_unit_list.specs.Check.{Verdict, checkOf}
 use Rattle.cdf_grammar.specs.Trees.{Forest, none, tree, ids, units}
 use Rattle.cdf_grammar.specs.Published.{InGrammar}
 use Rattle.cdf_grammar.specs.Encoding.{Stream, encode, says}
@@ -23,7 +23,7 @@ use Rattle.cdf_builder_spec.specs.Place.{BuilderPlace, fits}
 use Rattle.cdf_builder_spec.specs.Requests.{Request, unit, bytesFor, completed}
 use Rattle.cdf_builder_spec.specs.Calls.{Finish, finishOf}
 use Rattle.cdf_builder_spec.proofs.Fitting.{fitting}
-use Rattle.cdf_builder_runs.specs.Runs.{rootItem, told, Lent, AllLent}
+use Rattle.cdf_builder_runs.specs.Runs.{rootItem, requested, Lent, AllLent}
 use Rattle.cdf_builder_runs.specs.Building.{Building, andThen, layout, asked, count, size, first, last, finish, AllZero, Allowed, theEnd}
 use Rattle.cdf_builder_runs.specs.Telling.{Tells, Whole, Begins, firstUnits}
 use Rattle.cdf_builder_runs.specs.Claims.{Holds, Builds}
@@ -32,7 +32,7 @@ use Rattle.cdf_builder_runs.proofs.Forward.{forward, begins-admitted}
 use Rattle.cdf_builder_runs.proofs.Rooms.{sizes-on, run-written, Begun, begun, all-done}
 use Rattle.cdf_builder_runs.proofs.Kept.{KeptBy, kept-start, kept-run}
 use Rattle.cdf_builder_runs.proofs.Ending.{Ended, all-ended, begins-from}
-use Rattle.cdf_builder_runs.proofs.Said.{stream-says, told-says, told-once}
+use Rattle.cdf_builder_runs.proofs.Said.{stream-says, requested-says, told-once}
 use Rattle.cdf_builder_runs.proofs.FirstUnits.{length-says, front-first}
 
 -- Finish, at a place that fits.
@@ -66,16 +66,16 @@ stream-holds : (e : Edition) (front : List ℕ) (t : Forest) (rs : List Request)
     Holds (layoutOf e) front t rs
 stream-holds e front t rs p tells =
     let l = layoutOf e in
-    let items : itemsOf l front ≡ told l rs = stream-says e front t p ∙ told-says e t rs tells in
+    let items : itemsOf l front ≡ requested l rs = stream-says e front t p ∙ requested-says e t rs tells in
     let accepted = Grammar.proved .streams e .counted front t p in
-    let count : units t ≡ length (told l rs) = sym (length-says t) ∙ ap length (told-says e t rs tells) in
+    let count : units t ≡ length (requested l rs) = sym (length-says t) ∙ ap length (requested-says e t rs tells) in
     let end : afterwards (checkOf l front) ≡ theEnd = ap afterwards accepted ∙ the-end (units t) in
     let root = root-agrees t .0 (p .tree .root) in
     let some : listing l front .units ≡ [] → ⊥ =
     λ z. says-some t (root .0) (root .1) (sym (stream-says e front t p) ∙ none-listed l front z) in
     record {
       encoded = sym (p .bytes);
-      checked = accepted ∙ ap {B = Answer} (λ n. record { number = 0; value = n }) count;
+      checked = accepted ∙ ap {B = Verdict} (λ n. record { number = 0; value = n }) count;
       read = λ k. Reading.proved .reads l front some k ∙ ap (λ (x : Outcome). due x (listing l front .units) k) end;
       same = items;
     }

@@ -16,11 +16,11 @@ use Rattle.cdf_grammar.proofs.Heights.{OfHeight, Lower}
 use Rattle.cdf_grammar.proofs.Items.{Low, low, said-low}
 use Rattle.cdf_builder_spec.specs.Requests.{Request, unit}
 use Rattle.cdf_builder_spec.specs.declared.Begun.{Begun}
-use Rattle.cdf_builder_runs.specs.Runs.{told}
+use Rattle.cdf_builder_runs.specs.Runs.{requested}
 use Rattle.cdf_builder_runs.specs.Telling.{Tells, firstUnits}
 use Rattle.cdf_builder_runs.proofs.Growing.{shutAll, shut-all}
 use Rattle.cdf_builder_runs.proofs.Spine.{Spine}
-use Rattle.cdf_builder_runs.proofs.Said.{told-unit, told-append, told-says}
+use Rattle.cdf_builder_runs.proofs.Said.{requested-unit, requested-append, requested-says}
 use Rattle.cdf_builder_runs.proofs.Low.{all-low, all-told}
 
 pub length-says : (f : Forest) → length (says f) ≡ units f
@@ -78,7 +78,7 @@ module _ (e : Edition) (w : ℕ) (os : List Begun) (u : Item) (rs : List Request
   l = layoutOf e
 
   abbrev said : List Item
-  said = told l (unit u ∷ rs)
+  said = requested l (unit u ∷ rs)
 
   abbrev trees : Forest
   trees = shutAll (s .frames) (s .kids)
@@ -86,17 +86,17 @@ module _ (e : Edition) (w : ℕ) (os : List Begun) (u : Item) (rs : List Request
   says-said : says (firstUnits t (length said)) ≡ said
   says-said =
       says-first t (length said)
-      ∙ ap (take (length said)) (told-says e t (unit u ∷ (rs ++ more)) tells ∙ told-append l (unit u ∷ rs) more)
-      ∙ take-append-seam said (told l more)
+      ∙ ap (take (length said)) (requested-says e t (unit u ∷ (rs ++ more)) tells ∙ requested-append l (unit u ∷ rs) more)
+      ∙ take-append-seam said (requested l more)
 
   one : trees ≡ firstUnits t (length said)
   one =
       let a = all-low l (s .frames) (s .kids) os (s .held) (low l (s .kids) (fits l (s .kids) (s .conforms))) in
       let root = root-agrees t .0 (grammar .root) in
-      let some : length said ≡ suc (length (told l rs)) = ap length (told-unit l u rs) in
-      let alone = rw (← some) at (first-root t (root .0) (length (told l rs)) (root .1)) in
+      let some : length said ≡ suc (length (requested l rs)) = ap length (requested-unit l u rs) in
+      let alone = rw (← some) at (first-root t (root .0) (length (requested l rs)) (root .1)) in
       said-low trees (firstUnits t (length said)) (a .0) (first-low t (length said) (low l t (fits l t (grammar .conforms)))) (a .1 .1) alone
-      (told-says e trees (unit u ∷ rs) (all-told l (s .frames) (s .kids) (unit u ∷ rs) (s .told)) ∙ sym says-said)
+      (requested-says e trees (unit u ∷ rs) (all-told l (s .frames) (s .kids) (unit u ∷ rs) (s .told)) ∙ sym says-said)
 
   pub front-first : front ≡ encode l (firstUnits t (length said))
   front-first = s .bytes ∙ shut-all l w (s .frames) (s .kids) (s .ends) ∙ ap (encode l) one

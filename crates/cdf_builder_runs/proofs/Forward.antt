@@ -13,7 +13,7 @@ use Rattle.cdf_unit_table.proofs.Rows.{opens-by, root-opens}
 use Rattle.cdf_unit_table.proofs.Bools.{clash}
 use Rattle.cdf_unit_prefix.specs.Layout.{Layout, layoutOf}
 use Rattle.cdf_unit_prefix.specs.declared.Edition.{Edition}
-use Rattle.cdf_unit_list.specs.Check.{Answer, checkOf}
+use Rattle.cdf_unit_list.specs.Check.{Verdict, checkOf}
 use Rattle.cdf_grammar.specs.Trees.{Forest, none, tree, ids}
 use Rattle.cdf_grammar.specs.Published.{Among, Conforms, Follows, InGrammar}
 use Rattle.cdf_grammar.specs.Encoding.{Stream, Item}
@@ -22,7 +22,7 @@ use Rattle.cdf_grammar.proofs.Agrees.{fits, root-agrees}
 use Rattle.cdf_grammar.proofs.Proved.{proved}
 use Rattle.cdf_builder_spec.specs.declared.Begun.{Begun}
 use Rattle.cdf_builder_spec.specs.Place.{BuilderPlace}
-use Rattle.cdf_builder_spec.specs.Requests.{Request, unit, group, idOf, joined, advanced, entering, completed, refused, grown}
+use Rattle.cdf_builder_spec.specs.Requests.{Request, unit, group, idOf, joinNumber, advanced, entering, completed, refused, grown}
 use Rattle.cdf_builder_runs.specs.Telling.{Tells, Whole, Begins}
 use Rattle.cdf_builder_spec.proofs.Replying.{rootPlace, entering-group}
 use Rattle.cdf_builder_runs.specs.Runs.{rootItem}
@@ -76,7 +76,7 @@ module _ (l : Layout) where
     low : Shut (height id) (at .inside)
     low = rw (admit-lower (o .state) id some .alike) (at .shut)
 
-    joined-here : joined (p .units) id 0 ≡ 0
+    joined-here : joinNumber (p .units) id 0 ≡ 0
     joined-here = rw (at .are) (joined-on id o os some (at .inside) low 0)
 
     grown-here : (r : Request) → idOf l r ≡ id →
@@ -210,7 +210,7 @@ module _ (l : Layout) where
 pub forward : (e : Edition) (id : ℕ) (rs : List Request) → Whole (layoutOf e) (unit (rootItem id) ∷ rs) →
     Finished (layoutOf e) id rs
 forward e id rs (t, g, told) =
-    tree-leads (layoutOf e) (λ s t p. ap (λ (a : Answer). a .number) (proved .streams e .counted s t p)) t g id rs told
+    tree-leads (layoutOf e) (λ s t p. ap (λ (a : Verdict). a .number) (proved .streams e .counted s t p)) t g id rs told
 
 pub begins-admitted : (e : Edition) (id : ℕ) (rs : List Request) → Begins (layoutOf e) (unit (rootItem id) ∷ rs) →
     (rootKind id ≡ true) × Admitted (layoutOf e) (rootPlace (layoutOf e) id) rs

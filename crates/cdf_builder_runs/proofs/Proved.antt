@@ -11,11 +11,11 @@ use Rattle.cdf_grammar.specs.Encoding.{Item}
 use Rattle.cdf_builder_spec.specs.Requests.{Request, unit}
 use Rattle.cdf_builder_spec.specs.Calls.{Reply}
 use Rattle.cdf_builder_spec.proofs.Replying.{call-kept}
-use Rattle.cdf_builder_runs.specs.Runs.{answer, run, AllDone, done, Alike, told}
+use Rattle.cdf_builder_runs.specs.Runs.{answer, run, AllDone, done, Alike, requested}
 use Rattle.cdf_builder_runs.specs.Telling.{Begins, BeginUnits}
 use Rattle.cdf_builder_runs.specs.Claims.{Claims}
 use Rattle.cdf_builder_runs.proofs.Ending.{tells-units}
-use Rattle.cdf_builder_runs.proofs.Said.{told-says, told-units, told-append}
+use Rattle.cdf_builder_runs.proofs.Said.{requested-says, requested-units, requested-append}
 use Rattle.cdf_builder_runs.proofs.Building.{accepted, builds}
 use Rattle.cdf_builder_runs.proofs.Computed.{computed}
 
@@ -25,7 +25,7 @@ plain e us =
       λ w.
           let more = w .0 in
           let t = w .1 .0 in
-          (t, told l more, w .1 .1, told-says e t (map unit us ++ more) (w .1 .2) ∙ rw (told-append, told-units)),
+          (t, requested l more, w .1 .1, requested-says e t (map unit us ++ more) (w .1 .2) ∙ rw (requested-append, requested-units)),
       λ w.
           let t = w .0 in
           (map unit (w .1), (t, w .2, rw (w .3, map-append) at (tells-units l t))),

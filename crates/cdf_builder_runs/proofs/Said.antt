@@ -13,7 +13,7 @@ use Rattle.cdf_grammar.proofs.Agrees.{fits, root-agrees}
 use Rattle.cdf_grammar.proofs.Items.{said-once, items}
 use Rattle.cdf_grammar.proofs.Proved.{proved}
 use Rattle.cdf_builder_spec.specs.Requests.{Request, unit, group}
-use Rattle.cdf_builder_runs.specs.Runs.{toldBy, told}
+use Rattle.cdf_builder_runs.specs.Runs.{itemsBy, requested}
 use Rattle.cdf_builder_runs.specs.Telling.{Tells}
 
 -- The units of a stream say what those of its tree do.
@@ -23,23 +23,23 @@ stream-says e s t p =
     let l = layoutOf e in
     ap (map (itemOf l s)) (proved .streams e .listed s t p) ∙ items l s t (fits l t (p .tree .conforms)) (p .bytes)
 
-pub told-unit : (l : Layout) (u : Item) (rs : List Request) → told l (unit u ∷ rs) ≡ u ∷ told l rs
-unfolding told toldBy
-told-unit l u rs = refl
+pub requested-unit : (l : Layout) (u : Item) (rs : List Request) → requested l (unit u ∷ rs) ≡ u ∷ requested l rs
+unfolding requested itemsBy
+requested-unit l u rs = refl
 
-pub told-group : (l : Layout) (g : List ℕ) (rs : List Request) → told l (group g ∷ rs) ≡ itemsOf l g ++ told l rs
-unfolding told toldBy
-told-group l g rs = refl
+pub requested-group : (l : Layout) (g : List ℕ) (rs : List Request) → requested l (group g ∷ rs) ≡ itemsOf l g ++ requested l rs
+unfolding requested itemsBy
+requested-group l g rs = refl
 
-pub told-units : (l : Layout) (us : List Item) → told l (map unit us) ≡ us
-unfolding told
-told-units l [] = refl
-told-units l (u ∷ us) = ap (λ (xs : List Item). u ∷ xs) (told-units l us)
+pub requested-units : (l : Layout) (us : List Item) → requested l (map unit us) ≡ us
+unfolding requested
+requested-units l [] = refl
+requested-units l (u ∷ us) = ap (λ (xs : List Item). u ∷ xs) (requested-units l us)
 
-pub told-append : (l : Layout) (xs ys : List Request) → told l (xs ++ ys) ≡ told l xs ++ told l ys
-unfolding told
-told-append l [] ys = refl
-told-append l (r ∷ xs) ys = rw (told-append l xs ys) (sym (append-assoc (toldBy l r) (told l xs) (told l ys)))
+pub requested-append : (l : Layout) (xs ys : List Request) → requested l (xs ++ ys) ≡ requested l xs ++ requested l ys
+unfolding requested
+requested-append l [] ys = refl
+requested-append l (r ∷ xs) ys = rw (requested-append l xs ys) (sym (append-assoc (itemsBy l r) (requested l xs) (requested l ys)))
 
 says-tree : (id action : ℕ) (text : List ℕ) (inner rest : Forest) →
     says (tree id action text inner rest) ≡ record { id = id; action = action; text = text } ∷ (says inner ++ says rest)
@@ -50,28 +50,28 @@ says-none : says none ≡ []
 unfolding says
 says-none = refl
 
-pub told-none : (l : Layout) → told l [] ≡ []
-unfolding told
-told-none l = refl
+pub requested-none : (l : Layout) → requested l [] ≡ []
+unfolding requested
+requested-none l = refl
 
-pub told-says : (e : Edition) (f : Forest) (rs : List Request) → Tells (layoutOf e) f rs → says f ≡ told (layoutOf e) rs
-told-says e none rs p = rw (p, says-none, told-none)
-told-says e (tree id action text inner rest) rs p =
+pub requested-says : (e : Edition) (f : Forest) (rs : List Request) → Tells (layoutOf e) f rs → says f ≡ requested (layoutOf e) rs
+requested-says e none rs p = rw (p, says-none, requested-none)
+requested-says e (tree id action text inner rest) rs p =
     ⊎-elim (λ w.
     rw (
       w .2,
-      told-unit,
-      told-append,
-      ← told-says e inner (w .0) (w .3),
-      ← told-says e rest (w .1) (w .4),
+      requested-unit,
+      requested-append,
+      ← requested-says e inner (w .0) (w .3),
+      ← requested-says e rest (w .1) (w .4),
       says-tree id action text inner rest,
     ))
     (λ w.
     rw (
       w .2,
-      told-group,
+      requested-group,
       stream-says e (w .0) (tree id action text inner none) (w .4),
-      ← told-says e rest (w .1) (w .5),
+      ← requested-says e rest (w .1) (w .5),
       says-tree id action text inner none,
       says-tree id action text inner rest,
       says-none,
@@ -86,4 +86,4 @@ told-once e t u rs p q a b =
     let l = layoutOf e in
     let i = root-agrees t .0 (p .root) in
     let j = root-agrees u .0 (q .root) in
-    said-once l t u (fits l t (p .conforms)) (fits l u (q .conforms)) (i .1) (j .1) (told-says e t rs a ∙ sym (told-says e u rs b))
+    said-once l t u (fits l t (p .conforms)) (fits l u (q .conforms)) (i .1) (j .1) (requested-says e t rs a ∙ sym (requested-says e u rs b))

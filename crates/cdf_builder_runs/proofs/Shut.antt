@@ -11,7 +11,7 @@ use Rattle.cdf_unit_table.specs.States.{admit, complete, unitOf}
 use Rattle.cdf_unit_table.specs.Heights.{height}
 use Rattle.cdf_unit_table.proofs.Heights.{level, admit-lower}
 use Rattle.cdf_builder_spec.specs.declared.Begun.{Begun}
-use Rattle.cdf_builder_spec.specs.Requests.{joining, ending, completed, joined}
+use Rattle.cdf_builder_spec.specs.Requests.{joining, ending, completed, joinNumber}
 use Rattle.cdf_builder_spec.proofs.Joining.{NoneAdmits, joins-over}
 
 -- These units are complete, and what each admits is lower than n.
@@ -55,6 +55,6 @@ module _ (id : ℕ) (o : Begun) (os : List Begun) (some : admit (o .state) id �
   ends = rw (joins-over xs o os id (none-admits id xs a) some .1) (rw append-nil at (shut-completed (height id) xs [] a refl))
 
   -- and is not refused for where it joins.
-  pub joined-on : (next : ℕ) → joined (xs ++ (o ∷ os)) id next ≡ next
-  unfolding joined
+  pub joined-on : (next : ℕ) → joinNumber (xs ++ (o ∷ os)) id next ≡ next
+  unfolding joinNumber
   joined-on next = rw (joins, ends, ne-eqb (length (o ∷ os)) 0 (λ z. omega arith))

@@ -22,9 +22,9 @@ use Rattle.cdf_builder_runs.proofs.Adding.{Step, add-tree, add-open}
 use Rattle.cdf_builder_runs.proofs.Passed.{UnitPassed, unit-passed, GroupPassed, group-passed}
 
 -- The units inside the one that is joined have ended.
-joined : (l : Layout) (w : ℕ) (os : List Begun) (rs : List Request) (front : List ℕ) (id : ℕ) (j : Joins os id) → Spine l w os rs front →
+spine-joined : (l : Layout) (w : ℕ) (os : List Begun) (rs : List Request) (front : List ℕ) (id : ℕ) (j : Joins os id) → Spine l w os rs front →
     Spine l w (j .unit ∷ j .outer) rs front
-joined l w os rs front id j s = shut-inner l w (j .inner) (j .unit ∷ j .outer) rs front (j .full) (rw (j .parts) at s)
+spine-joined l w os rs front id j s = shut-inner l w (j .inner) (j .unit ∷ j .outer) rs front (j .full) (rw (j .parts) at s)
 
 -- The bytes of a unit that has nothing in it.
 pub unit-bytes : (l : Layout) (u : Item) → bytesFor l (unit u) ≡ encode l (tree (u .id) (u .action) (u .text) none none)
@@ -70,13 +70,13 @@ module _ (l : Layout) (p : BuilderPlace) (rs : List Request) (front : List ℕ) 
   unfolding ids
   unit-step u w true o =
       let j = w .joins in
-      let top = joined l (p .written) (p .units) rs front (u .id) j spine in
+      let top = spine-joined l (p .written) (p .units) rs front (u .id) j spine in
       rw (grown-written, units-open l p (j .unit) (j .outer) u o (j .joins), unit-bytes l u)
       (add-open l (p .written) (j .unit) (j .outer) rs front top (u .id) (j .admitted) (unit u) (u .action) (u .text) refl o
       (opens-some (u .id) o) (w .acts) (w .says))
   unit-step u w false o =
       let j = w .joins in
-      let top = joined l (p .written) (p .units) rs front (u .id) j spine in
+      let top = spine-joined l (p .written) (p .units) rs front (u .id) j spine in
       rw (grown-written, units-leaf l p (j .unit) (j .outer) u o (j .joins), unit-bytes l u)
       (add-tree l (p .written) (j .unit) (j .outer) rs front top (u .id) (j .admitted) (unit u) (tree (u .id) (u .action) (u .text) none none)
       refl (record { acts = w .acts; says = w .says; holds = leaf-agrees (u .id) o [] .1 refl }, record {}, record {})
@@ -87,7 +87,7 @@ module _ (l : Layout) (p : BuilderPlace) (rs : List Request) (front : List ℕ) 
   group-step g w =
       let j = w .joins in
       let id = idAt l g in
-      let top = joined l (p .written) (p .units) rs front id j spine in
+      let top = spine-joined l (p .written) (p .units) rs front id j spine in
       let whole = tree id (w .action) (w .text) (w .inner) none in
       rw (grown-written, units-group l p (j .unit) (j .outer) g (j .joins), bytes-group l g)
       (rw (w .stream .bytes) at (add-tree l (p .written) (j .unit) (j .outer) rs front top id (j .admitted) (group g) whole

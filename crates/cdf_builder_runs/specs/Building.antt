@@ -8,7 +8,7 @@ use Rattle.cdf_reader_spec.specs.Calls.{noUnit}
 use Rattle.cdf_reader_runs.specs.Runs.{Outcome}
 use Rattle.cdf_builder_spec.specs.Requests.{Request, unit}
 use Rattle.cdf_builder_spec.specs.Calls.{Reply, startOf, Finish, finishOf}
-use Rattle.cdf_builder_runs.specs.Runs.{rootItem, run, AllDone, sizes, told}
+use Rattle.cdf_builder_runs.specs.Runs.{rootItem, run, AllDone, sizes, requested}
 use Rattle.cdf_builder_runs.specs.Telling.{Begins}
 
 -- A start with a root's id, on a buffer that nobody else writes, and the calls after it.
@@ -31,7 +31,7 @@ asked b = unit (rootItem (b .root)) ∷ b .calls
 
 -- How many units that is, and how many bytes.
 abbrev pub count : Building → ℕ
-count b = length (told (layout b) (asked b))
+count b = length (requested (layout b) (asked b))
 
 abbrev pub size : Building → ℕ
 size b = sizes (layout b) (asked b)

@@ -18,7 +18,7 @@ use Rattle.cdf_reader_runs.specs.Runs.{reading, outcome}
 use Rattle.cdf_reader_runs.specs.Runs as Reading
 use Rattle.cdf_builder_spec.specs.Requests.{Request, unit}
 use Rattle.cdf_builder_spec.specs.Calls.{Reply}
-use Rattle.cdf_builder_runs.specs.Runs.{answer, run, AllDone, done, Alike, told, Lent, AllLent}
+use Rattle.cdf_builder_runs.specs.Runs.{answer, run, AllDone, done, Alike, requested, Lent, AllLent}
 use Rattle.cdf_builder_runs.specs.Building.{Building, andThen, layout, asked, count, size, last, finish, AllZero, Allowed, theEnd}
 use Rattle.cdf_builder_runs.specs.Samples.{found, due}
 use Rattle.cdf_builder_runs.specs.Telling.{Tells, Whole, Begins, BeginUnits, firstUnits}
@@ -28,11 +28,11 @@ pub record Holds (l : Layout) (front : List ℕ) (t : Forest) (rs : List Request
   -- They are the tree's encoding.
   pub encoded : front ≡ encode l t
   -- The check accepts them, with as many units as were asked for.
-  pub checked : checkOf l front ≡ record { number = 0; value = length (told l rs) }
+  pub checked : checkOf l front ≡ record { number = 0; value = length (requested l rs) }
   -- A start and nexts of the reader hand out these units, one after the other, and then the end for ever;
   pub read : (k : ℕ) → outcome (reading l front k) ≡ Reading.due theEnd (listing l front .units) k
   -- and they say what was asked for, in the same order: id, action and own data.
-  pub same : itemsOf l front ≡ told l rs
+  pub same : itemsOf l front ≡ requested l rs
 
 -- The start and every call so far answered 0.
 pub record Builds (b : Building) : Type 0 where

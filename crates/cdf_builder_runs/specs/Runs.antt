@@ -48,15 +48,15 @@ sizes l [] = 0
 sizes l (r ∷ rs) = length (bytesFor l r) + sizes l rs
 
 -- What the requested units say, in order: a group says what its units do.
-unfoldable pub toldBy : Layout → Request → List Item
+unfoldable pub itemsBy : Layout → Request → List Item
 unfolding itemsOf
-toldBy l (unit u) = u ∷ []
-toldBy l (group g) = itemsOf l g
+itemsBy l (unit u) = u ∷ []
+itemsBy l (group g) = itemsOf l g
 
-unfoldable pub told : Layout → List Request → List Item
-unfolding toldBy
-told l [] = []
-told l (r ∷ rs) = toldBy l r ++ told l rs
+unfoldable pub requested : Layout → List Request → List Item
+unfolding itemsBy
+requested l [] = []
+requested l (r ∷ rs) = itemsBy l r ++ requested l rs
 
 -- What is lent to a call is bytes.
 abbrev pub Lent : Request → Type 0

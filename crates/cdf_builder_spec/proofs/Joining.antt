@@ -13,7 +13,7 @@ use Rattle.cdf_unit_table.proofs.Bools.{both, past}
 use Rattle.cdf_unit_prefix.specs.Layout.{Layout, idAt}
 use Rattle.cdf_grammar.specs.Encoding.{Item}
 use Rattle.cdf_builder_spec.specs.declared.Begun.{Begun}
-use Rattle.cdf_builder_spec.specs.Requests.{Request, unit, group, idOf, joining, ending, completed, joined}
+use Rattle.cdf_builder_spec.specs.Requests.{Request, unit, group, idOf, joining, ending, completed, joinNumber}
 use Rattle.cdf_builder_spec.specs.Requests.{rightData, acceptedGroup, refused}
 
 -- The definitions, one case at a time: they stay shut, and the rows in them too.
@@ -32,19 +32,19 @@ unfolding ending
 ending-cons id o os = refl
 
 pub joined-tests : (os : List Begun) (id next : ℕ) →
-    joined os id next ≡ cond (eqb (length (joining id os)) 0) 7 (cond (not (completed (ending id os))) 10 next)
-unfolding joined
+    joinNumber os id next ≡ cond (eqb (length (joining id os)) 0) 7 (cond (not (completed (ending id os))) 10 next)
+unfolding joinNumber
 joined-tests os id next = refl
 
 pub unit-tests : (l : Layout) (os : List Begun) (u : Item) (next : ℕ) →
     refused l os (unit u) next
     ≡ cond (not (known (u .id))) 6
-    (joined os (u .id) (cond (not (actionAllowed (u .id) (u .action))) 8 (cond (not (rightData (u .id) (u .text))) 9 next)))
+    (joinNumber os (u .id) (cond (not (actionAllowed (u .id) (u .action))) 8 (cond (not (rightData (u .id) (u .text))) 9 next)))
 unfolding refused
 unit-tests l os u next = refl
 
 pub group-tests : (l : Layout) (os : List Begun) (g : List ℕ) (next : ℕ) →
-    refused l os (group g) next ≡ cond (not (acceptedGroup l g)) 14 (joined os (idAt l g) next)
+    refused l os (group g) next ≡ cond (not (acceptedGroup l g)) 14 (joinNumber os (idAt l g) next)
 unfolding refused
 group-tests l os g next = refl
 
@@ -93,20 +93,20 @@ found (o ∷ os) id some full =
     }
 
 -- Past the two tests.
-passed : (os : List Begun) (id next : ℕ) → joined os id next ≡ 0 →
+passed : (os : List Begun) (id next : ℕ) → joinNumber os id next ≡ 0 →
     (eqb (length (joining id os)) 0 ≡ false) × (not (completed (ending id os)) ≡ false) × (next ≡ 0)
 passed os id next e =
     let a = past (eqb (length (joining id os)) 0) 7 _ (λ z. omega arith) (sym (joined-tests os id next) ∙ e) in
     let b = past (not (completed (ending id os))) 10 next (λ z. omega arith) (a .1) in
     (a .0, b .0, b .1)
 
-pub joined-is : (os : List Begun) (id next : ℕ) → joined os id next ≡ 0 → Joins os id × (next ≡ 0)
+pub joined-is : (os : List Begun) (id next : ℕ) → joinNumber os id next ≡ 0 → Joins os id × (next ≡ 0)
 joined-is os id next e =
     let w = passed os id next e in
     (found os id (w .0) (not-false (completed (ending id os)) (w .1)), w .2)
 
 -- Once an id is joined, what is asked next decides.
-joined-then : (os : List Begun) (id next then : ℕ) → joined os id next ≡ 0 → joined os id then ≡ then
+joined-then : (os : List Begun) (id next then : ℕ) → joinNumber os id next ≡ 0 → joinNumber os id then ≡ then
 joined-then os id next then e =
     let w = passed os id next e in
     rw (joined-tests os id then, w .0, w .1)

@@ -19,7 +19,7 @@ use Rattle.cdf_builder_write.proofs.Lent.{length-alone}
 use Rattle.cdf_builder_spec.specs.declared.Begun.{Begun}
 use Rattle.cdf_builder_spec.specs.Place.{BuilderPlace, fits}
 use Rattle.cdf_builder_spec.specs.Requests.{Request, unit, group, idOf, bytesFor, joining, advanced, entering, refused, grown}
-use Rattle.cdf_builder_spec.specs.Calls.{Reply, noPlace, room, startNumber, startOf, callNumber, decideOf, writeOf, callOf}
+use Rattle.cdf_builder_spec.specs.Calls.{Reply, noBuilderPlace, room, startNumber, startOf, callNumber, decideOf, writeOf, callOf}
 use Rattle.cdf_builder_spec.specs.Orders.{sizeWith}
 use Rattle.cdf_builder_spec.proofs.Joining.{Joins, refused-is, refused-then}
 use Rattle.cdf_builder_spec.proofs.Lengths.{length-write}
@@ -41,7 +41,7 @@ start-is : (l : Layout) (s : List ℕ) (id : ℕ) →
     startOf l s id
     ≡ cond (eqb (startNumber l (length s) id) 0)
     (record { number = 0; place = rootPlace l id; buffer = patch 0 (unitBytes l id 0 [] []) s })
-    (record { number = startNumber l (length s) id; place = noPlace; buffer = s })
+    (record { number = startNumber l (length s) id; place = noBuilderPlace; buffer = s })
 unfolding startOf
 start-is l s id = refl
 
@@ -132,7 +132,7 @@ module _ (l : Layout) (s : List ℕ) (id : ℕ) where
   pub start-done : number ≡ 0 → startOf l s id ≡ record { number = 0; place = rootPlace l id; buffer = patch 0 (unitBytes l id 0 [] []) s }
   start-done e = rw (start-is l s id, eq-eqb number 0 e)
 
-  pub start-kept : (startOf l s id .number ≡ 0 → ⊥) → (startOf l s id .place ≡ noPlace) × (startOf l s id .buffer ≡ s)
+  pub start-kept : (startOf l s id .number ≡ 0 → ⊥) → (startOf l s id .place ≡ noBuilderPlace) × (startOf l s id .buffer ≡ s)
   start-kept some =
       let no = ne-eqb number 0 (λ e. some (start-number ∙ e)) in
       (rw (start-is l s id, no), rw (start-is l s id, no))

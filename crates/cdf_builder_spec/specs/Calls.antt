@@ -20,8 +20,8 @@ pub record Reply : Type 0 where
   pub buffer : List ℕ
 
 -- The empty place, which a refused start returns.
-abbrev pub noPlace : BuilderPlace
-noPlace = record { written = 0; units = [] }
+abbrev pub noBuilderPlace : BuilderPlace
+noBuilderPlace = record { written = 0; units = [] }
 
 -- Each of these units has the length from its start to its end.
 unfoldable pub lengths : Layout → List Open → List ℕ → List ℕ
@@ -48,7 +48,7 @@ startOf l s id =
       place = record { written = prefixOf l; units = record { state = nothing id; start = 0 } ∷ [] };
       buffer = patch 0 (unitBytes l id 0 [] []) s;
     })
-    (record { number = n; place = noPlace; buffer = s })
+    (record { number = n; place = noBuilderPlace; buffer = s })
 
 -- NEXT and ADD_STREAM: 2 for a place that does not fit, the request's own rules, 13 and 12.
 unfoldable pub callNumber : Layout → ℕ → BuilderPlace → Request → ℕ

@@ -10,7 +10,7 @@ use Rattle.cdf_grammar.specs.Encoding.{Item}
 use Rattle.cdf_builder_spec.specs.Place.{BuilderPlace, fits}
 use Rattle.cdf_builder_spec.specs.NearMisses.{missesFound, missesDue}
 use Rattle.cdf_builder_spec.specs.Requests.{Request, unit, group}
-use Rattle.cdf_builder_spec.specs.Calls.{noPlace, startOf, decideOf, callOf, finishOf}
+use Rattle.cdf_builder_spec.specs.Calls.{noBuilderPlace, startOf, decideOf, callOf, finishOf}
 use Rattle.cdf_builder_spec.specs.Orders.{firstBroken, startRules, nextRules, addRules, finishRules}
 
 pub record Claims : Type 0 where
@@ -24,7 +24,7 @@ pub record Claims : Type 0 where
       fits l (length (callOf l s p r .buffer)) (callOf l s p r .place) ≡ true
   -- A refused start returns the empty place, and leaves the buffer as it was;
   pub refused-start : (l : Layout) (s : List ℕ) (id : ℕ) → (startOf l s id .number ≡ 0 → ⊥) →
-      (startOf l s id .place ≡ noPlace) × (startOf l s id .buffer ≡ s)
+      (startOf l s id .place ≡ noBuilderPlace) × (startOf l s id .buffer ≡ s)
   -- a refused call leaves the place as it was too.
   pub refused-stays : (l : Layout) (s : List ℕ) (p : BuilderPlace) (r : Request) → (callOf l s p r .number ≡ 0 → ⊥) →
       (callOf l s p r .place ≡ p) × (callOf l s p r .buffer ≡ s)

@@ -51,9 +51,9 @@ completed [] = true
 completed (o ∷ os) = complete (o .state) && completed os
 
 -- 7: no open unit admits the id. 10: one does, but a unit inside it is incomplete. Else what is asked next.
-unfoldable pub joined : List Begun → ℕ → ℕ → ℕ
+unfoldable pub joinNumber : List Begun → ℕ → ℕ → ℕ
 unfolding joining ending completed
-joined os id next = cond (eqb (length (joining id os)) 0) 7 (cond (not (completed (ending id os))) 10 next)
+joinNumber os id next = cond (eqb (length (joining id os)) 0) 7 (cond (not (completed (ending id os))) 10 next)
 
 -- The own data is right and there is no more of it: a unit that admits others holds only its name or its numbers so far.
 unfoldable pub wholeData : ℕ → List ℕ → Own → Bool
@@ -72,11 +72,11 @@ acceptedGroup l g = eqb (checkOf l g .number) 0 && isGroup (idAt l g)
 
 -- NEXT: 6, 7, 10, 8 and 9 in this order. ADD_STREAM: 14, 7 and 10. Else what is asked next.
 unfoldable pub refused : Layout → List Begun → Request → ℕ → ℕ
-unfolding known joined actionAllowed rightData acceptedGroup
+unfolding known joinNumber actionAllowed rightData acceptedGroup
 refused l os (unit u) next =
     cond (not (known (u .id))) 6
-    (joined os (u .id) (cond (not (actionAllowed (u .id) (u .action))) 8 (cond (not (rightData (u .id) (u .text))) 9 next)))
-refused l os (group g) next = cond (not (acceptedGroup l g)) 14 (joined os (idAt l g) next)
+    (joinNumber os (u .id) (cond (not (actionAllowed (u .id) (u .action))) 8 (cond (not (rightData (u .id) (u .text))) 9 next)))
+refused l os (group g) next = cond (not (acceptedGroup l g)) 14 (joinNumber os (idAt l g) next)
 
 -- The unit that admits the id has then had it.
 unfoldable pub advanced : ℕ → List Begun → List Begun

@@ -13,7 +13,7 @@ use Rattle.cdf_unit_prefix.specs.declared.Edition.{Edition}
 use Rattle.cdf_unit_judge.specs.Judge.{judgeOf}
 use Rattle.cdf_unit_judge.specs.declared.Judged.{Judged}
 use Rattle.cdf_unit_list.specs.Units.{End, unfinished, ended, fault, listing, listingIn}
-use Rattle.cdf_unit_list.specs.Check.{Answer, checkOf, checkIn}
+use Rattle.cdf_unit_list.specs.Check.{Verdict, checkOf, checkIn}
 use Rattle.cdf_unit_list.proofs.Numbered.{numbered}
 use Rattle.cdf_grammar.specs.Trees.{Forest, units}
 use Rattle.cdf_grammar.specs.Encoding.{Bytes, Stream}
@@ -63,11 +63,11 @@ module _ (e : Edition) (s : List ℕ) (b : Bytes s) where
     exact (Accepted m) (p, q) = (
       λ a.
           let same-count : m ≡ n = cc in
-          let w = proved .streams e .exactly s b .0 (sym (ap (λ (x : Answer). x .number) p)) in
-          (w .0, w .1, sym (ap (λ (x : Answer). x .value) (p ∙ counted (w .0) (w .1))) ∙ same-count),
-      λ w. ap Accepted (ap (λ (x : Answer). x .value) (p ∙ counted (w .0) (w .1)) ∙ w .2),
+          let w = proved .streams e .exactly s b .0 (sym (ap (λ (x : Verdict). x .number) p)) in
+          (w .0, w .1, sym (ap (λ (x : Verdict). x .value) (p ∙ counted (w .0) (w .1))) ∙ same-count),
+      λ w. ap Accepted (ap (λ (x : Verdict). x .value) (p ∙ counted (w .0) (w .1)) ∙ w .2),
     )
     exact (Refused k at) (p, q) = (
       λ a. clash cc,
-      λ w. absurd (refused-numbered k at q (ap (λ (x : Answer). x .number) (p ∙ counted (w .0) (w .1)))),
+      λ w. absurd (refused-numbered k at q (ap (λ (x : Verdict). x .number) (p ∙ counted (w .0) (w .1)))),
     )

@@ -2,7 +2,7 @@
 use Prim.Native.Nat.{ℕ}
 use lib.ListN.{length}
 use Rattle.cdf_unit_list.specs.Units.{End, unfinished, ended, fault, Listing}
-use Rattle.cdf_unit_list.specs.Check.{Answer}
+use Rattle.cdf_unit_list.specs.Check.{Verdict}
 use Rattle.cdf_check.specs.declared.Checked.{Checked}
 use Rattle.cdf_check.specs.declared.Checked.the-variants.{Accepted, Refused}
 
@@ -18,6 +18,6 @@ unfolding checkedBy
 checkedOf r = checkedBy (length (r .units)) (r .end)
 
 -- The number and the value that 01 gives a case: 0 with the count, or the fault's number and offset.
-unfoldable pub asAnswer : Checked → Answer
+unfoldable pub asAnswer : Checked → Verdict
 asAnswer (Accepted count) = record { number = 0; value = count }
 asAnswer (Refused n at) = record { number = n; value = at }

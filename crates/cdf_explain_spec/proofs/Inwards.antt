@@ -5,7 +5,7 @@ use mathlib.Core.Bool.{Bool, true, false, cond, _&&_}
 use mathlib.Core.List.{List, [], _∷_, _++_, reverse, reverseAux}
 use lib.Dec.{eqb, ltb}
 use Rattle.cdf_unit_table.specs.States.{opens, complete}
-use Rattle.cdf_unit_list.specs.Units.{after, parents, openAt, closingAt, stateOf}
+use Rattle.cdf_unit_list.specs.Units.{after, parentsThat, openAt, closingAt, stateOf}
 use Rattle.cdf_unit_list.specs.declared.Unit.{Unit}
 use Rattle.cdf_unit_list.proofs.Nested.{Nested}
 use Rattle.cdf_explain_spec.specs.Why.{keptOpen, openAround}
@@ -62,7 +62,7 @@ each-both P [] vs h g = g
 each-both P (u ∷ us) vs h g = (h .0, each-both P us vs (h .1) g)
 
 -- What each listed unit that admits others has, each open unit has.
-around-each : (P : Unit → Type 0) (us : List Unit) → ((f : Unit → Bool) → Each P (parents f us)) → Each P (openAround us)
+around-each : (P : Unit → Type 0) (us : List Unit) → ((f : Unit → Bool) → Each P (parentsThat f us)) → Each P (openAround us)
 unfolding openAround closingAt openAt
 around-each P [] h = record {}
 around-each P (u ∷ us) h =
@@ -73,13 +73,13 @@ pub around-opens : (us : List Unit) → Each (λ u. opens (u .id) ≡ true) (ope
 around-opens us = around-each (λ u. opens (u .id) ≡ true) us (λ f. each-parent f (λ u. opens (u .id) ≡ true) (λ u o e. o) us)
 
 -- They are among the listed ones.
-one-parent : (f : Unit → Bool) (us : List Unit) → Each (λ u. OneOf u us) (parents f us)
-unfolding parents
+one-parent : (f : Unit → Bool) (us : List Unit) → Each (λ u. OneOf u us) (parentsThat f us)
+unfolding parentsThat
 one-parent f [] = record {}
 one-parent f (u ∷ us) =
-    go (opens (u .id) && f u) (each-more (λ v. OneOf v us) (λ v. OneOf v (u ∷ us)) (λ v h. there h) (parents f us) (one-parent f us))
+    go (opens (u .id) && f u) (each-more (λ v. OneOf v us) (λ v. OneOf v (u ∷ us)) (λ v h. there h) (parentsThat f us) (one-parent f us))
   where
-    go : (b : Bool) → Each (λ v. OneOf v (u ∷ us)) (parents f us) → Each (λ v. OneOf v (u ∷ us)) (cond b (u ∷ parents f us) (parents f us))
+    go : (b : Bool) → Each (λ v. OneOf v (u ∷ us)) (parentsThat f us) → Each (λ v. OneOf v (u ∷ us)) (cond b (u ∷ parentsThat f us) (parentsThat f us))
     go true h = (here, h)
     go false h = h
 

@@ -8,7 +8,7 @@ use borrow.Author.Tests.{eq-eqb, ne-eqb, eqb-true, eqb-false, ltb-true, ltb-fals
 use lib.Dec.{eqb, ltb, leb}
 use Rattle.cdf_unit_table.specs.States.{opens, complete}
 use Rattle.cdf_unit_table.proofs.Bools.{both}
-use Rattle.cdf_unit_list.specs.Units.{after, parents, openAt, closingAt, stateOf}
+use Rattle.cdf_unit_list.specs.Units.{after, parentsThat, openAt, closingAt, stateOf}
 use Rattle.cdf_unit_list.specs.declared.Unit.{Unit}
 use Rattle.cdf_unit_list.proofs.Nested.{reaching, Nested, narrow, still-reach, none-closes}
 use Rattle.cdf_unit_list.proofs.StatesListed.{openOf}
@@ -18,19 +18,19 @@ use Rattle.cdf_explain_spec.specs.Claims.{Each}
 
 -- What passes a test has what the test tells, and admits others.
 pub each-parent : (f : Unit → Bool) (P : Unit → Type 0) → ((u : Unit) → opens (u .id) ≡ true → f u ≡ true → P u) → (us : List Unit) →
-    Each P (parents f us)
-unfolding parents
+    Each P (parentsThat f us)
+unfolding parentsThat
 each-parent f P has [] = record {}
 each-parent f P has (u ∷ us) = go (opens (u .id) && f u) refl (each-parent f P has us)
   where
-    go : (b : Bool) → (opens (u .id) && f u) ≡ b → Each P (parents f us) → Each P (cond b (u ∷ parents f us) (parents f us))
+    go : (b : Bool) → (opens (u .id) && f u) ≡ b → Each P (parentsThat f us) → Each P (cond b (u ∷ parentsThat f us) (parentsThat f us))
     go true e more = let w = both (opens (u .id)) (f u) e in (has u (w .0) (w .1), more)
     go false e more = more
 
 module _ (pos : ℕ) where
   -- Those that reach a position end there, the inner ones, or later.
   pub parts : (us : List Unit) → Nested pos pos (reaching pos us) → reaching pos us ≡ closingAt pos us ++ openAt pos us
-  unfolding parents closingAt openAt
+  unfolding parentsThat closingAt openAt
   parts [] h = refl
   parts (u ∷ us) h = go (opens (u .id)) (ltb pos (u .end)) refl (eqb (u .end) pos) refl h (parts us)
     where

@@ -11,7 +11,7 @@ use Rattle.cdf_unit_table.specs.Ids.{member}
 use Rattle.cdf_unit_table.specs.States.{opens}
 use Rattle.cdf_unit_table.specs.Tables.{those}
 use Rattle.cdf_unit_table.proofs.Bools.{clash}
-use Rattle.cdf_unit_list.specs.Units.{parents}
+use Rattle.cdf_unit_list.specs.Units.{parentsThat}
 use Rattle.cdf_unit_list.specs.declared.Unit.{Unit}
 use Rattle.cdf_unit_list.proofs.Nested.{Nested}
 use Rattle.cdf_explain_spec.specs.Claims.{OneOf, here, there, Each}
@@ -58,12 +58,12 @@ pub turned-one : {w : Unit} (us : List Unit) → OneOf w (reverse us) → OneOf 
 turned-one us o = rw reverse-reverse at (one-turned [] o)
 
 -- A unit that admits others and passes the test is one of those that do.
-pub one-passes : {w : Unit} {us : List Unit} (f : Unit → Bool) → OneOf w us → opens (w .id) ≡ true → f w ≡ true → OneOf w (parents f us)
-unfolding parents
+pub one-passes : {w : Unit} {us : List Unit} (f : Unit → Bool) → OneOf w us → opens (w .id) ≡ true → f w ≡ true → OneOf w (parentsThat f us)
+unfolding parentsThat
 one-passes f here o e = rw (o, e) here
 one-passes {w} f (there {v = v} {us = us} h) o e = go (opens (v .id) && f v) (one-passes f h o e)
   where
-    go : (b : Bool) → OneOf w (parents f us) → OneOf w (cond b (v ∷ parents f us) (parents f us))
+    go : (b : Bool) → OneOf w (parentsThat f us) → OneOf w (cond b (v ∷ parentsThat f us) (parentsThat f us))
     go true more = there more
     go false more = more
 

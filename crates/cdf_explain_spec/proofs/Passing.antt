@@ -13,7 +13,7 @@ use Rattle.cdf_unit_judge.specs.Judge.{judgeOf}
 use Rattle.cdf_unit_judge.specs.declared.Judged.{Judged}
 use Rattle.cdf_unit_judge.specs.declared.Judged.the-variants.{Fault, Found}
 use Rattle.cdf_unit_list.specs.Units.{after, Next, broken, listed, unitAt, End, unfinished, ended, fault, next, listing}
-use Rattle.cdf_unit_list.specs.Check.{Answer, answerOf, answer, checkOf}
+use Rattle.cdf_unit_list.specs.Check.{Verdict, answerOf, answer, checkOf}
 use Rattle.cdf_unit_list.specs.Stack.{Step, refused, found, step}
 use Rattle.cdf_unit_list.specs.declared.Unit.{Unit}
 use Rattle.cdf_unit_list.specs.declared.Open.{Open}
@@ -135,11 +135,11 @@ module _ (l : Layout) (s : List ℕ) where
   fault-check at e = go (listing l s .end) e
     where
       go : (x : End) → answerOf (length (listing l s .units)) x ≡ record { number = 7; value = at } → x ≡ fault 7 at
-      go unfinished e = let z : _≡_ {A = ℕ} 99 7 = ap (λ (a : Answer). a .number) e in absurd (omega arith)
-      go ended e = let z : _≡_ {A = ℕ} 0 7 = ap (λ (a : Answer). a .number) e in absurd (omega arith)
+      go unfinished e = let z : _≡_ {A = ℕ} 99 7 = ap (λ (a : Verdict). a .number) e in absurd (omega arith)
+      go ended e = let z : _≡_ {A = ℕ} 0 7 = ap (λ (a : Verdict). a .number) e in absurd (omega arith)
       go (fault n k) e =
-          let a : n ≡ 7 = ap (λ (a : Answer). a .number) e in
-          let b : k ≡ at = ap (λ (a : Answer). a .value) e in
+          let a : n ≡ 7 = ap (λ (a : Verdict). a .number) e in
+          let b : k ≡ at = ap (λ (a : Verdict). a .value) e in
           rw (a, b)
 
   run-refused : {x : Step} {us : List Unit} {e : End} → Run l s x us e → (n at : ℕ) → x ≡ refused n at → e ≡ fault n at

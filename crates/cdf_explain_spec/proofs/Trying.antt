@@ -20,7 +20,7 @@ use Rattle.cdf_unit_judge.specs.declared.Judged.the-variants.{Fault, Found}
 use Rattle.cdf_unit_judge.proofs.Placed.{placed}
 use Rattle.cdf_unit_list.specs.Units.{after, openAt, closingAt, stateOf, Next, whole, broken, listed, unitAt, closed, within, orElse, nextAt, next}
 use Rattle.cdf_unit_list.specs.declared.Unit.{Unit}
-use Rattle.cdf_unit_list.proofs.Entering.{after-between, unitOf}
+use Rattle.cdf_unit_list.proofs.Entering.{after-between, unitFrom}
 use Rattle.cdf_explain_spec.specs.Why.{keptOpen, openAround, admittedBy}
 use Rattle.cdf_explain_spec.specs.Claims.{behind}
 use Rattle.cdf_explain_spec.proofs.Last.{Incomplete, by-closing}
@@ -125,7 +125,7 @@ module _ (l : Layout) where
     len : ℕ
     state : ℕ
     judged : judgeOf l (tried .root) (tried .state) (tried .part r) ≡ Found id action own len state
-    unit : u ≡ unitOf (behind us) id action own len
+    unit : u ≡ unitFrom (behind us) id action own len
 
   lists : (r : List ℕ) (us : List Unit) (u : Unit) → nextOf r us ≡ listed u → Lists r us u
   unfolding unitAt
@@ -145,7 +145,7 @@ module _ (l : Layout) where
   next-place r us u e =
       let w = lists r us u e in
       let p = placed l (w .tried .root) (w .tried .state) (w .tried .part r) (w .judged) in
-      let v = unitOf (behind us) (w .id) (w .action) (w .own) (w .len) in
+      let v = unitFrom (behind us) (w .id) (w .action) (w .own) (w .len) in
       let between = after-between v (omega (arith, p .inside)) in
       rw (w .unit) (omega (arith, p .room), between .0)
 

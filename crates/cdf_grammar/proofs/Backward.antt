@@ -18,7 +18,7 @@ use Rattle.cdf_unit_list.specs.declared.Open.{Open}
 use Rattle.cdf_unit_judge.specs.declared.Judged.{Judged}
 use Rattle.cdf_unit_judge.specs.declared.Judged.the-variants.{Fault, Found}
 use Rattle.cdf_unit_judge.proofs.Placed.{Placed, placed}
-use Rattle.cdf_unit_list.proofs.Entering.{unitOf}
+use Rattle.cdf_unit_list.proofs.Entering.{unitFrom}
 use Rattle.cdf_grammar.specs.Trees.{Forest, none, tree, ids}
 use Rattle.cdf_grammar.specs.Encoding.{encode, Bytes}
 use Rattle.cdf_grammar.proofs.Fits.{through, Fits}
@@ -62,10 +62,10 @@ module _ (l : Layout) (S : List ℕ) where
       go false e = absurd (refused-never l S F 10 (o .start) us (rw (step-closes l S o os pos at, e) at q))
 
   -- A unit, and then the trees after it.
-  joined : (o : Open) (pos id len next : ℕ) → pos + len ≤ o .end → admit (o .state) id ≡ next →
+  nested-joined : (o : Open) (pos id len next : ℕ) → pos + len ≤ o .end → admit (o .state) id ≡ next →
       UnitIs l id (take len (take (o .end - pos) (drop pos S))) → Over (withState o next) (pos + len) → Over o pos
   unfolding through ids withState
-  joined o pos id len next room may v w =
+  nested-joined o pos id len next room may v w =
       let s = take (o .end - pos) (drop pos S) in
       let left : o .end - pos - len ≡ o .end - (pos + len) = omega arith in
       let rest : drop len s ≡ encode l (w .trees) = rw (part-left pos (o .end - pos) len S, left) (w .bytes) in
@@ -116,11 +116,11 @@ module _ (l : Layout) (S : List ℕ) (b : Bytes S) where
 
     -- What was entered is a unit that fits.
     entered-ends : (N : ℕ) → Ends l S N → (F : ℕ) → F < N → (os : List Open) (us : List Unit) →
-        stepsAfter l S (unitOf pos id action own len) os F us .end ≡ ended → UnitIs l id (take len s)
+        stepsAfter l S (unitFrom pos id action own len) os F us .end ≡ ended → UnitIs l id (take len s)
     entered-ends N ends F h os us q = go (opens id) refl
       where
         u : Unit
-        u = unitOf pos id action own len
+        u = unitFrom pos id action own len
 
         k : ℕ
         k = own - prefixOf l
@@ -158,13 +158,13 @@ module _ (l : Layout) (S : List ℕ) (b : Bytes S) where
           absurd (refused-never l S (suc F) n (pos + k) us (rw (step-inside l S o os pos low, e, faults) at q))
       go (Found id action own len next) e =
           let p = placed l false (o .state) s e in
-          let u = unitOf pos id action own len in
+          let u = unitFrom pos id action own len in
           let around = withState o next ∷ os in
           let inside : stepsAfter l S u around F (u ∷ us) .end ≡ ended = rw (step-inside l S o os pos low, e, enters, steps-on) at q in
           let room : pos + len ≤ o .end = omega (arith, p .high, length-take (o .end - pos) (drop pos S)) in
           let v = entered-ends p pos (o .end - pos) refl (omega arith) N ends F h around (u ∷ us) inside in
           let g = leaves (nest-unit l S F u around (u ∷ us) (omega arith)) inside in
-          joined l S o pos id len next room (sym (admits-nested (o .state) id) ∙ p .may) v
+          nested-joined l S o pos id len next room (sym (admits-nested (o .state) id) ∙ p .may) v
           (ends (g .fuel) (omega (arith, g .less)) (withState o next) os (pos + len) _ room high (rw (g .on) at inside))
 
   all-ends : (N : ℕ) → Ends l S N
@@ -186,7 +186,7 @@ built l s b q = go (judgeOf l true 0 s) refl
     go (Fault k at) e = absurd (refused-never l s (suc n) k (0 + at) [] (rw (listing-steps, e, faults) at q))
     go (Found id action own len next) e =
         let p = placed l true 0 s e in
-        let u = unitOf 0 id action own len in
+        let u = unitFrom 0 id action own len in
         let inside : stepsAfter l s u [] n (u ∷ []) .end ≡ ended = rw (listing-steps, e, enters, steps-on) at q in
         let ends = all-ends l s b (suc n) in
         let v = entered-ends l s b p 0 n (sym (take-length s)) (omega arith) (suc n) ends n (omega arith) [] (u ∷ []) inside in

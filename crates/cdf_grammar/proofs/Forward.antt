@@ -15,7 +15,7 @@ use Rattle.cdf_unit_list.specs.Steps.{stepsFrom}
 use Rattle.cdf_unit_list.specs.declared.Unit.{Unit}
 use Rattle.cdf_unit_list.specs.declared.Open.{Open}
 use Rattle.cdf_unit_judge.specs.declared.Judged.the-variants.{Found}
-use Rattle.cdf_unit_list.proofs.Entering.{unitOf}
+use Rattle.cdf_unit_list.proofs.Entering.{unitFrom}
 use Rattle.cdf_grammar.specs.Trees.{Forest, none, tree, ids, units}
 use Rattle.cdf_grammar.specs.Encoding.{unitBytes, encode, list}
 use Rattle.cdf_grammar.proofs.Fits.{through, through-none, complete-some, ownOf, Passes, Fits}
@@ -38,7 +38,7 @@ unitHere l pos id action text inner =
     record { id = id; action = action; start = pos; own = body + ownOf id text; end = end }
 
 unit-here : (l : Layout) (pos id action : ℕ) (text : List ℕ) (inner : Forest) →
-    unitOf pos id action (prefixOf l + ownOf id text) (sizeOf l text inner) ≡ unitHere l pos id action text inner
+    unitFrom pos id action (prefixOf l + ownOf id text) (sizeOf l text inner) ≡ unitHere l pos id action text inner
 unit-here l pos id action text inner =
     let u = unitHere l pos id action text inner in
     let own : pos + (prefixOf l + ownOf id text) ≡ u .own = omega arith in

@@ -23,7 +23,7 @@ use Rattle.cdf_unit_judge.specs.declared.Judged.{Judged}
 use Rattle.cdf_unit_judge.specs.declared.Judged.the-variants.{Fault, Found}
 use Rattle.cdf_unit_table.proofs.Parts.{Part, left-of}
 use Rattle.cdf_unit_judge.proofs.Placed.{placed}
-use Rattle.cdf_unit_list.proofs.Entering.{unitOf}
+use Rattle.cdf_unit_list.proofs.Entering.{unitFrom}
 use Rattle.cdf_unit_list.proofs.Agreement.{follows}
 use Rattle.cdf_unit_list.proofs.Stepping.{fresh}
 
@@ -95,7 +95,7 @@ module _ (l : Layout) (S : List ℕ) (base n : ℕ) (t : List ℕ) (p : Part S b
           simp add-assoc (by-opens (opens id) (omega arith))
         where
           u : Unit
-          u = unitOf pos id action own len
+          u = unitFrom pos id action own len
 
           by-opens : (b : Bool) → u .end ≤ n →
               Local (found u (cond b (fresh u ∷ around next) (around next)) (cond b (u .own) (u .end)))

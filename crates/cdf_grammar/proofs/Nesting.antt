@@ -20,7 +20,7 @@ use Rattle.cdf_unit_list.specs.declared.Open.{Open}
 use Rattle.cdf_unit_judge.specs.declared.Judged.{Judged}
 use Rattle.cdf_unit_judge.specs.declared.Judged.the-variants.{Fault, Found}
 use Rattle.cdf_unit_judge.proofs.Placed.{placed}
-use Rattle.cdf_unit_list.proofs.Entering.{after-between, unitOf}
+use Rattle.cdf_unit_list.proofs.Entering.{after-between, unitFrom}
 use Rattle.cdf_unit_list.proofs.Stepping.{fresh, step-inside, step-closes, refused-never, spent-never}
 
 -- What closing leaves of a stack with others around it, from what it leaves of the stack alone.
@@ -129,7 +129,7 @@ module _ (l : Layout) (S : List ℕ) where
       unit (Fault n k) e = record {}
       unit (Found id action own len next) e =
           let p = placed l false (o .state) s e in
-          let u = unitOf pos id action own len in
+          let u = unitFrom pos id action own len in
           let few = length-take (o .end - pos) (drop pos S) in
           let up = spans-up os (o .end) end (h .1) in
           let between = after-between u (omega arith) in

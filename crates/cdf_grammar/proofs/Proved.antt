@@ -8,7 +8,7 @@ use lib.ListN.{length}
 use Rattle.cdf_unit_prefix.specs.Layout.{Layout, layoutOf}
 use Rattle.cdf_unit_table.specs.States.{rootKind}
 use Rattle.cdf_unit_list.specs.Units.{End, unfinished, ended, fault, Listing, listing}
-use Rattle.cdf_unit_list.specs.Check.{Answer, answerOf, checkOf}
+use Rattle.cdf_unit_list.specs.Check.{Verdict, answerOf, checkOf}
 use Rattle.cdf_unit_list.specs.Samples.{k2}
 use Rattle.cdf_unit_prefix.specs.declared.Edition.{Edition}
 use Rattle.cdf_unit_prefix.specs.declared.Edition.the-variants.{First, Second}
@@ -98,7 +98,7 @@ of e =
     let l = layoutOf e in
     let room = roomy e in
     record {
-      exactly = λ s b. (stream-of l room s b, λ w. ap (λ (a : Answer). a .number) (counted l room s (w .0) (w .1)));
+      exactly = λ s b. (stream-of l room s b, λ w. ap (λ (a : Verdict). a .number) (counted l room s (w .0) (w .1)));
       counted = counted l room;
       unique = once l room;
       listed = λ s t p. ap (λ (x : Listing). x .units) (whole l room s t p);

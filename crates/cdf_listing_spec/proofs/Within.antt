@@ -23,7 +23,7 @@ use Rattle.cdf_unit_list.specs.Units.{End, unfinished, ended, fault, listing}
 use Rattle.cdf_unit_list.specs.Stack.{Closing, incomplete, left, close, Step, done, refused, found, opened, entered, withState, stepIn, step}
 use Rattle.cdf_unit_list.specs.declared.Unit.{Unit}
 use Rattle.cdf_unit_list.specs.declared.Open.{Open}
-use Rattle.cdf_unit_list.proofs.Entering.{unitOf}
+use Rattle.cdf_unit_list.proofs.Entering.{unitFrom}
 use Rattle.cdf_unit_list.proofs.Few.{Further, unit-further}
 use Rattle.cdf_unit_list.proofs.Stepping.{faults}
 use Rattle.cdf_reader_runs.proofs.Steps.{Run, ends, breaks, hands, listed}
@@ -85,7 +85,7 @@ module _ (l : Layout) (s : List ℕ) where
           let p = placed l root state t e in
           let id = known-id i (p .recognised) in (
             record { start = omega arith; end = omega arith; id = id; action = small-action i action id (p .allowed) },
-            starts-opened (unitOf pos i action own len) (around next) h (starts next),
+            starts-opened (unitFrom pos i action own len) (around next) h (starts next),
             f .1,
           )
 

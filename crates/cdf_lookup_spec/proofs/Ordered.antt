@@ -27,9 +27,9 @@ lower : (a x b : ℕ) (us : List Unit) → a ≤ x → Rising x b us → Rising 
 lower a x b [] less r = omega arith
 lower a x b (u ∷ us) less r = (omega (arith, r .0), r .1)
 
-joined : (a b x : ℕ) (us vs : List Unit) → Rising a x us → Rising x b vs → Rising a b (us ++ vs)
-joined a b x [] vs r q = lower a x b vs r q
-joined a b x (u ∷ us) vs r q = (r .0, joined (suc (u .start)) b x us vs (r .1) q)
+rising-joined : (a b x : ℕ) (us vs : List Unit) → Rising a x us → Rising x b vs → Rising a b (us ++ vs)
+rising-joined a b x [] vs r q = lower a x b vs r q
+rising-joined a b x (u ∷ us) vs r q = (r .0, rising-joined (suc (u .start)) b x us vs (r .1) q)
 
 module _ (l : Layout) where
   -- How many bytes a tree and those after it take.
@@ -50,7 +50,7 @@ module _ (l : Layout) where
       let e : end + length (encode l rest) ≡ at + length (encode l (tree id action text inner rest)) =
       omega (arith, long id action text inner rest) in
       rw e at (rising end rest) in
-      (omega arith, joined (suc at) _ end (list l x inner) (list l end rest) (lower (suc at) x end (list l x inner) (omega arith) nested) later)
+      (omega arith, rising-joined (suc at) _ end (list l x inner) (list l end rest) (lower (suc at) x end (list l x inner) (omega arith) nested) later)
 
 -- The next of the units is a key, and lies in t.
 abbrev pub KeyNext : Unit → List Unit → Type 0

@@ -11,7 +11,7 @@ use Rattle.cdf_unit_judge.specs.declared.Judged.the-variants.{Fault, Found}
 use Rattle.cdf_unit_judge.proofs.Placed.{placed}
 use Rattle.cdf_unit_list.specs.declared.Unit.{Unit}
 use Rattle.cdf_unit_list.specs.declared.Open.{Open}
-use Rattle.cdf_unit_list.proofs.Entering.{unitOf}
+use Rattle.cdf_unit_list.proofs.Entering.{unitFrom}
 use Rattle.cdf_unit_list.proofs.Stepping.{faults, enters, opened-parent}
 use Rattle.cdf_reader_spec.specs.Calls.{refuse, give, emptyPlace, stepped, firstOf}
 use Rattle.cdf_reader_spec.specs.Slots.{noOpen, around, openUnits, placeOf}
@@ -33,7 +33,7 @@ module _ (l : Layout) (s : List ℕ) where
       let z = placed l true 0 s e in
       let first = root-first 0 id state (z .may) (z .some) in
       let opening = opens-by id state first (z .some) in
-      let w = opened-parent (unitOf 0 id action own len) [] opening in
+      let w = opened-parent (unitFrom 0 id action own len) [] opening in
       let o : 0 + own ≡ own = omega arith in
       let n : 0 + len ≡ len = omega arith in
       rw (first-is l s, e, enters 0 (λ state. []) id action own len state, w .0, w .1, opening, o, n, first)

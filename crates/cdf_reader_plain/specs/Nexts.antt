@@ -3,7 +3,7 @@ use Prim.Native.Nat.{ℕ, zero, suc}
 use mathlib.Core.Bool.{cond}
 use mathlib.Core.List.{List, [], _∷_}
 use lib.Dec.{eqb}
-use Rattle.cdf_unit_list.specs.Check.{Answer}
+use Rattle.cdf_unit_list.specs.Check.{Verdict}
 use Rattle.cdf_unit_list.specs.declared.Unit.{Unit}
 use Rattle.cdf_reader_spec.specs.Calls.{noPart}
 use Rattle.cdf_reader_runs.specs.Runs.{Outcome, afterwards}
@@ -20,7 +20,7 @@ abbrev pub partless : Outcome → Told
 partless o = record { number = o .number; offset = o .offset; part = noPart; unit = o .unit }
 
 -- Past the unit list: the end, 1, where the check accepts, else the check's own number and offset.
-abbrev pub everAfter : Answer → Told
+abbrev pub everAfter : Verdict → Told
 everAfter a = partless (afterwards a)
 
 -- How many of the answers are 0.

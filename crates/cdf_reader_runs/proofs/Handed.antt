@@ -11,7 +11,7 @@ use Rattle.cdf_unit_table.proofs.Bools.{of-cond, clash}
 use Rattle.cdf_unit_prefix.specs.Layout.{Layout, prefixOf}
 use Rattle.cdf_unit_list.specs.Units.{End, listing}
 use Rattle.cdf_unit_list.specs.Stack.{Step}
-use Rattle.cdf_unit_list.specs.Check.{Answer, checkOf}
+use Rattle.cdf_unit_list.specs.Check.{Verdict, checkOf}
 use Rattle.cdf_unit_list.specs.declared.Unit.{Unit}
 use Rattle.cdf_unit_list.proofs.Proved.{proved}
 use Rattle.cdf_reader_spec.specs.Calls.{Reply, emptyPlace, noUnit, stepped}
@@ -23,7 +23,7 @@ use Rattle.cdf_reader_runs.proofs.Steps.{Run, ends, breaks, hands, list
 use Rattle.cdf_reader_runs.proofs.Readings.{reading-first, reading-next, reads}
 
 -- Past the last unit the number is not 0.
-afterwards-none : (a : Answer) → afterwards a .number ≡ 0 → ⊥
+afterwards-none : (a : Verdict) → afterwards a .number ≡ 0 → ⊥
 unfolding afterwards
 afterwards-none a =
     of-cond (λ (t : Outcome). t .number ≡ 0 → ⊥) (eqb (a .number) 0) _ (record { number = a .number; offset = a .value; unit = noUnit })

@@ -16,7 +16,7 @@ use Rattle.cdf_unit_judge.proofs.Faults.{told}
 use Rattle.cdf_unit_judge.proofs.Placed.{Placed, placed}
 use Rattle.cdf_unit_list.specs.Stack.{Closing, incomplete, left, close, Step, done, refused, found, entered, withState, stepIn, step}
 use Rattle.cdf_unit_list.specs.declared.Open.{Open}
-use Rattle.cdf_unit_list.proofs.Entering.{unitOf as unitAt}
+use Rattle.cdf_unit_list.proofs.Entering.{unitFrom as unitAt}
 use Rattle.cdf_unit_list.proofs.Stepping.{fresh}
 use Rattle.cdf_reader_spec.specs.Place.{ReaderPlace, nested, fits}
 use Rattle.cdf_reader_spec.specs.Calls.{placeAt}

@@ -4,7 +4,7 @@ use mathlib.Core.Bool.{cond}
 use mathlib.Core.List.{List, [], _∷_}
 use lib.Dec.{eqb}
 use Rattle.cdf_unit_prefix.specs.Layout.{Layout}
-use Rattle.cdf_unit_list.specs.Check.{Answer}
+use Rattle.cdf_unit_list.specs.Check.{Verdict}
 use Rattle.cdf_unit_list.specs.declared.Unit.{Unit}
 use Rattle.cdf_reader_spec.specs.Calls.{Reply, noUnit, firstOf, nextOf}
 
@@ -24,7 +24,7 @@ unfoldable pub outcome : Reply → Outcome
 outcome r = record { number = r .number; offset = r .offset; unit = r .unit }
 
 -- Past the last unit: the end, 1, where the check accepts, else the check's own number and offset.
-unfoldable pub afterwards : Answer → Outcome
+unfoldable pub afterwards : Verdict → Outcome
 afterwards a =
     cond (eqb (a .number) 0) (record { number = 1; offset = 0; unit = noUnit })
     (record { number = a .number; offset = a .value; unit = noUnit })

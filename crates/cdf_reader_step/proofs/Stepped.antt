@@ -16,7 +16,7 @@ use Rattle.cdf_unit_judge.proofs.Faults.{offset-lies}
 use Rattle.cdf_unit_list.specs.Stack.{close, Step, done, refused, found, opened, entered, withState, stepIn, step}
 use Rattle.cdf_unit_list.specs.Units.{after}
 use Rattle.cdf_unit_list.specs.declared.Open.{Open}
-use Rattle.cdf_unit_list.proofs.Entering.{unitOf}
+use Rattle.cdf_unit_list.proofs.Entering.{unitFrom}
 use Rattle.cdf_unit_list.proofs.Stepping.{faults, enters}
 use Rattle.cdf_reader_spec.specs.Place.{fits}
 use Rattle.cdf_reader_spec.specs.Slots.{openUnits}
@@ -85,7 +85,7 @@ module _ (l : Layout) (s : List ℕ) (p : Cursor) (fit : fits l (length s) (curs
 
       inside-found : (top .end ≡ p .position → ⊥) → {id action own len state : ℕ} →
           judgeOf l false (top .state) Rest ≡ Found id action own len state →
-          let u = unitOf (p .position) id action own len in
+          let u = unitFrom (p .position) id action own len in
           Next ≡ found u (opened u (openUnits count (withState top state) (p .o1) (p .o2) (p .o3))) (after u)
       inside-found e j = inside e ∙ rw j (enters _ _ _ _ _ _ _)
 
@@ -133,7 +133,7 @@ module _ (l : Layout) (s : List ℕ) (p : Cursor) (fit : fits l (length s) (curs
       -- A unit that is found is entered.
       pub enters-found : (top .end ≡ p .position → ⊥) → {id action own len state : ℕ} →
           judgeOf l false (top .state) Rest ≡ Found id action own len state →
-          outcomeReply (entering p count top (unitOf (p .position) id action own len) state) ≡ stepped (cursorPlace p) Next
+          outcomeReply (entering p count top (unitFrom (p .position) id action own len) state) ≡ stepped (cursorPlace p) Next
       enters-found e j =
           steps (cursorPlace p) p count top _ _ (omega arith) (room Rest j)
           ∙ sym (ap (stepped (cursorPlace p)) (inside-found e j))

@@ -9,7 +9,7 @@ use lib.ListN.{length, take, drop, length-take, length-map}
 use Rattle.cdf_unit_prefix.specs.Layout.{Layout}
 use Rattle.cdf_unit_table.specs.States.{admits, complete}
 use Rattle.cdf_unit_judge.specs.Judge.{judgeOf}
-use Rattle.cdf_unit_list.specs.Units.{after, parents, openAt, stateOf, Next, whole, broken, listed, unitAt, within}
+use Rattle.cdf_unit_list.specs.Units.{after, parentsThat, openAt, stateOf, Next, whole, broken, listed, unitAt, within}
 use Rattle.cdf_unit_list.specs.Units.{orElse, nextAt, next, goOn, listFrom, listBy}
 use Rattle.cdf_unit_list.specs.Stack.{Closing, incomplete, left, close, Step, done, refused, found, entered, withState, stepIn, step}
 use Rattle.cdf_unit_list.specs.Steps.{stepsFrom, steps}
@@ -21,7 +21,7 @@ use Rattle.cdf_unit_judge.proofs.Placed.{placed}
 use Rattle.cdf_unit_list.proofs.Nested.{Nested}
 use Rattle.cdf_unit_list.proofs.StatesListed.{openOf, Before, inner-state, outer-open}
 use Rattle.cdf_unit_list.proofs.Closing.{Closes, stops, leaves, closes}
-use Rattle.cdf_unit_list.proofs.Entering.{Bounded, Follow, Enters, enter, opened-bounded, unitOf}
+use Rattle.cdf_unit_list.proofs.Entering.{Bounded, Follow, Enters, enter, opened-bounded, unitFrom}
 use Rattle.cdf_unit_table.proofs.Heights.{falls, opens-lower, height-most}
 
 -- What comes next after the units listed so far, of the list and of the steps.
@@ -32,13 +32,13 @@ pub data Agrees (us : List Unit) : Next → Step → Type 0 where
       Agrees us (listed u) (found u os (after u))
 
 unit-agrees : (us : List Unit) (pos : ℕ) (around : ℕ → List Open) (j : Judged) →
-    ((id action own len state : ℕ) → j ≡ Found id action own len state → Enters us (around state) (unitOf pos id action own len)) →
+    ((id action own len state : ℕ) → j ≡ Found id action own len state → Enters us (around state) (unitFrom pos id action own len)) →
     Agrees us (unitAt pos j) (entered pos around j)
 unfolding unitAt entered
 unit-agrees us pos around (Fault n k) enters = both-refuse
 unit-agrees us pos around (Found id action own len state) enters =
     let e = enters id action own len state refl in
-    both-list (e .shallow) (enter us (around state) (unitOf pos id action own len) e)
+    both-list (e .shallow) (enter us (around state) (unitFrom pos id action own len) e)
 
 module _ (l : Layout) (s : List ℕ) where
   within-agrees : (us : List Unit) (pos : ℕ) → Before pos us → (ws : List Unit) → openAt pos us ≡ ws → Nested pos (suc pos) ws →
@@ -51,7 +51,7 @@ module _ (l : Layout) (s : List ℕ) where
       unit-agrees us pos (λ state. withState (openOf us o) state ∷ map (openOf us) ws) (judgeOf l false (stateOf us o) rest)
       (λ id action own len state q.
       let p = placed l false (stateOf us o) rest q in
-      let v = unitOf pos id action own len in
+      let v = unitFrom pos id action own len in
       let w = falls (stateOf us o) id state (p .may) (p .some) in
       let long = length-map ws (openOf us) in
       let around = withState (openOf us o) state ∷ map (openOf us) ws in
@@ -108,11 +108,11 @@ module _ (l : Layout) (s : List ℕ) where
 
   -- The first unit: nothing is open around it.
   pub first-agrees : (root : Bool) (state : ℕ) → Agrees [] (unitAt 0 (judgeOf l root state s)) (entered 0 (λ state. []) (judgeOf l root state s))
-  unfolding openAt parents
+  unfolding openAt parentsThat
   first-agrees root state =
       unit-agrees [] 0 (λ state. []) (judgeOf l root state s) (λ id action own len next q.
       let p = placed l root state s q in
-      let v = unitOf 0 id action own len in
+      let v = unitFrom 0 id action own len in
       record {
         own = omega arith;
         end = omega arith;

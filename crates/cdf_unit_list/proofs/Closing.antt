@@ -8,7 +8,7 @@ use native.Mathlib.Decide.{decLt}
 use borrow.Author.Tests.{lt-ltb, le-ltb, eq-eqb, ne-eqb, le-leb, lt-leb}
 use lib.Dec.{leb, ltb, eqb}
 use Rattle.cdf_unit_table.specs.States.{opens, complete}
-use Rattle.cdf_unit_list.specs.Units.{parents, openAt, closingAt, stateOf, Next, whole, broken, closed}
+use Rattle.cdf_unit_list.specs.Units.{parentsThat, openAt, closingAt, stateOf, Next, whole, broken, closed}
 use Rattle.cdf_unit_list.specs.Stack.{Closing, incomplete, left, close}
 use Rattle.cdf_unit_list.specs.declared.Unit.{Unit}
 use Rattle.cdf_unit_list.proofs.Nested.{reaching, Nested, narrow, still-reach, none-closes}
@@ -38,7 +38,7 @@ module _ (all : List Unit) (pos : ℕ) where
 
   -- Of the listed units `all`, it is enough to look at those that are left.
   pub closes : (us : List Unit) → Nested pos pos (reaching pos us) → ClosingOf us
-  unfolding parents openAt closingAt closed close
+  unfolding parentsThat openAt closingAt closed close
   closes [] h = leaves (record {})
   closes (u ∷ us) h = go (opens (u .id)) (order (u .end) pos) h (closes us)
     where

@@ -7,7 +7,7 @@ use native.Mathlib.Omega.{arith}
 use borrow.Author.Tests.{le-leb}
 use lib.ListN.{length}
 use Rattle.cdf_unit_table.specs.States.{opens, nothing}
-use Rattle.cdf_unit_list.specs.Units.{after, parents, openAt}
+use Rattle.cdf_unit_list.specs.Units.{after, parentsThat, openAt}
 use Rattle.cdf_unit_list.specs.Stack.{opened}
 use Rattle.cdf_unit_table.specs.Heights.{heightIn}
 use Rattle.cdf_unit_list.specs.declared.Unit.{Unit}
@@ -48,7 +48,7 @@ pub record Enters (us : List Unit) (os : List Open) (v : Unit) : Type 0 where
 module _ (us : List Unit) (os : List Open) (v : Unit) (e : Enters us os v) where
   reaching-new : (pos : ℕ) → v .start < pos → pos ≤ v .end →
       reaching pos (v ∷ us) ≡ cond (opens (v .id)) (v ∷ openAt (v .start) us) (openAt (v .start) us)
-  unfolding openAt parents
+  unfolding openAt parentsThat
   reaching-new pos p q =
       let far = narrow (openAt (v .start) us) (v .start) (v .end) (v .start) pos (omega arith) q (e .nested) in
       rw (le-leb pos (v .end) q, and-true, still-reach (suc (v .start)) pos p us (v .start) far)
@@ -88,5 +88,5 @@ opened-bounded v os low h = go (opens (v .id)) low
     go false low = h
 
 -- The unit that was judged at a position.
-abbrev pub unitOf : ℕ → ℕ → ℕ → ℕ → ℕ → Unit
-unitOf pos id action own len = record { id = id; action = action; start = pos; own = pos + own; end = pos + len }
+abbrev pub unitFrom : ℕ → ℕ → ℕ → ℕ → ℕ → Unit
+unitFrom pos id action own len = record { id = id; action = action; start = pos; own = pos + own; end = pos + len }

@@ -17,7 +17,7 @@ use Rattle.cdf_unit_list.specs.declared.Open.{Open}
 use Rattle.cdf_unit_judge.specs.declared.Judged.{Judged}
 use Rattle.cdf_unit_judge.specs.declared.Judged.the-variants.{Fault, Found}
 use Rattle.cdf_unit_judge.proofs.Placed.{placed}
-use Rattle.cdf_unit_list.proofs.Entering.{after-between, unitOf}
+use Rattle.cdf_unit_list.proofs.Entering.{after-between, unitFrom}
 use Rattle.cdf_unit_list.proofs.Agreement.{follows}
 
 module _ (l : Layout) (s : List ℕ) where
@@ -36,7 +36,7 @@ module _ (l : Layout) (s : List ℕ) where
       go (Fault n k) e = record {}
       go (Found id action own len next) e =
           let p = placed l root state t e in
-          let between = after-between (unitOf pos id action own len) (omega arith) in
+          let between = after-between (unitFrom pos id action own len) (omega arith) in
           omega arith
 
   pub step-further : (pos : ℕ) (os : List Open) → Further pos (step l s os pos)

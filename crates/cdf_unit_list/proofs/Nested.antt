@@ -7,12 +7,12 @@ use native.Mathlib.Omega.{arith}
 use borrow.Author.Tests.{leb-false, lt-leb, le-leb, ne-eqb}
 use lib.Dec.{leb, eqb}
 use Rattle.cdf_unit_table.specs.States.{opens}
-use Rattle.cdf_unit_list.specs.Units.{parents, closingAt}
+use Rattle.cdf_unit_list.specs.Units.{parentsThat, closingAt}
 use Rattle.cdf_unit_list.specs.declared.Unit.{Unit}
 
 -- Those that end at the position, or later.
 abbrev pub reaching : ℕ → List Unit → List Unit
-reaching pos us = parents (λ u. leb pos (u .end)) us
+reaching pos us = parentsThat (λ u. leb pos (u .end)) us
 
 -- The first surrounds what lies from `start` to `end`, each other one the unit before it.
 abbrev pub Nested : ℕ → ℕ → List Unit → Type 0
@@ -27,21 +27,21 @@ narrow (u ∷ us) a e b f p q h = (omega arith, omega arith, h .2)
 -- or none.
 settled : (pos far : ℕ) (f : Unit → Bool) (c : Bool) →
     ((u : Unit) → u .end < pos → f u ≡ false) → ((u : Unit) → far ≤ u .end → f u ≡ c) →
-    (us : List Unit) (start : ℕ) → Nested start far (reaching pos us) → parents f us ≡ cond c (reaching pos us) []
-unfolding parents
+    (us : List Unit) (start : ℕ) → Nested start far (reaching pos us) → parentsThat f us ≡ cond c (reaching pos us) []
+unfolding parentsThat
 settled pos far f true before later [] start h = refl
 settled pos far f false before later [] start h = refl
 settled pos far f c before later (u ∷ us) start h =
     go (opens (u .id)) (leb pos (u .end)) refl h (settled pos far f c before later us)
   where
-    kept : (c : Bool) → parents f us ≡ cond c (reaching pos us) [] →
-        cond c (u ∷ parents f us) (parents f us) ≡ cond c (u ∷ reaching pos us) []
+    kept : (c : Bool) → parentsThat f us ≡ cond c (reaching pos us) [] →
+        cond c (u ∷ parentsThat f us) (parentsThat f us) ≡ cond c (u ∷ reaching pos us) []
     kept true e = ap (λ x. u ∷ x) e
     kept false e = e
 
     go : (o t : Bool) → leb pos (u .end) ≡ t → Nested start far (cond (o && t) (u ∷ reaching pos us) (reaching pos us)) →
-        ((start : ℕ) → Nested start far (reaching pos us) → parents f us ≡ cond c (reaching pos us) []) →
-        cond (o && f u) (u ∷ parents f us) (parents f us) ≡ cond c (cond (o && t) (u ∷ reaching pos us) (reaching pos us)) []
+        ((start : ℕ) → Nested start far (reaching pos us) → parentsThat f us ≡ cond c (reaching pos us) []) →
+        cond (o && f u) (u ∷ parentsThat f us) (parentsThat f us) ≡ cond c (cond (o && t) (u ∷ reaching pos us) (reaching pos us)) []
     go false t e h more = more start h
     go true false e h more = rw (before u (leb-false pos (u .end) e)) (more start h)
     go true true e h more =

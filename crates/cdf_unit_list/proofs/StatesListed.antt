@@ -7,7 +7,7 @@ use native.Mathlib.Omega.{arith}
 use borrow.Author.Tests.{eq-eqb, ne-eqb}
 use lib.Dec.{ltb}
 use Rattle.cdf_unit_table.specs.States.{opens, nothing, admit}
-use Rattle.cdf_unit_list.specs.Units.{parents, openAt, firstStarts, inside, stateFrom, stateOf}
+use Rattle.cdf_unit_list.specs.Units.{parentsThat, openAt, firstStarts, inside, stateFrom, stateOf}
 use Rattle.cdf_unit_list.specs.declared.Unit.{Unit}
 use Rattle.cdf_unit_list.specs.declared.Open.{Open}
 use Rattle.cdf_unit_list.proofs.Nested.{Nested, narrow}
@@ -25,13 +25,13 @@ pub before-later : (us : List Unit) (pos later : ℕ) → pos ≤ later → Befo
 before-later [] pos later h b = b
 before-later (u ∷ us) pos later h b = (omega arith, before-later us pos later h (b .1))
 
-starts-none : (pos : ℕ) (f : Unit → Bool) (us : List Unit) → Before pos us → firstStarts pos (parents f us) ≡ false
-unfolding firstStarts parents
+starts-none : (pos : ℕ) (f : Unit → Bool) (us : List Unit) → Before pos us → firstStarts pos (parentsThat f us) ≡ false
+unfolding firstStarts parentsThat
 starts-none pos f [] b = refl
 starts-none pos f (u ∷ us) b = go (opens (u .id) && f u) (starts-none pos f us (b .1))
   where
-    go : (t : Bool) → firstStarts pos (parents f us) ≡ false →
-        firstStarts pos (cond t (u ∷ parents f us) (parents f us)) ≡ false
+    go : (t : Bool) → firstStarts pos (parentsThat f us) ≡ false →
+        firstStarts pos (cond t (u ∷ parentsThat f us) (parentsThat f us)) ≡ false
     go true e = ne-eqb (u .start) pos (λ q. omega arith)
     go false e = e
 

@@ -17,7 +17,7 @@ use Rattle.cdf_unit_list.specs.Steps.{stepsFrom, steps}
 use Rattle.cdf_unit_list.specs.declared.Unit.{Unit}
 use Rattle.cdf_unit_list.specs.declared.Open.{Open}
 use Rattle.cdf_unit_judge.specs.declared.Judged.the-variants.{Fault, Found}
-use Rattle.cdf_unit_list.proofs.Entering.{unitOf}
+use Rattle.cdf_unit_list.proofs.Entering.{unitFrom}
 use Rattle.cdf_unit_list.proofs.Agreement.{follows}
 
 -- A unit that was just entered: it has had nothing.
@@ -71,7 +71,7 @@ faults pos around n k = refl
 
 pub enters : (pos : ℕ) (around : ℕ → List Open) (id action own len state : ℕ) →
     entered pos around (Found id action own len state)
-    ≡ found (unitOf pos id action own len) (opened (unitOf pos id action own len) (around state)) (after (unitOf pos id action own len))
+    ≡ found (unitFrom pos id action own len) (opened (unitFrom pos id action own len) (around state)) (after (unitFrom pos id action own len))
 unfolding entered
 enters pos around id action own len state = refl
 

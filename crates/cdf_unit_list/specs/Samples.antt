@@ -5,7 +5,7 @@ use mathlib.Core.List.{List, [], _∷_}
 use lib.ListN.{set}
 use lib.Dec.{eqb}
 use Rattle.cdf_unit_prefix.specs.Layout.{layoutOf}
-use Rattle.cdf_unit_list.specs.Check.{Answer, checkOf}
+use Rattle.cdf_unit_list.specs.Check.{Verdict, checkOf}
 use Rattle.cdf_unit_prefix.specs.declared.Edition.the-variants.{First}
 
 abbrev pub k1 : List ℕ
@@ -51,7 +51,7 @@ samples =
 unfoldable pub holds : Sample → Bool
 unfolding checkOf
 holds k =
-    let a : Answer = checkOf (layoutOf First) (k .bytes) in eqb (a .number) (k .number) && eqb (a .value) (k .value)
+    let a : Verdict = checkOf (layoutOf First) (k .bytes) in eqb (a .number) (k .number) && eqb (a .value) (k .value)
 
 unfoldable pub allHold : List Sample → Bool
 unfolding holds

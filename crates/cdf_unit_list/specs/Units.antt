@@ -18,20 +18,20 @@ unfolding opens
 after u = cond (opens (u .id)) (u .own) (u .end)
 
 -- Of the listed units, those that admit others, if they pass the test.
-unfoldable pub parents : (Unit → Bool) → List Unit → List Unit
+unfoldable pub parentsThat : (Unit → Bool) → List Unit → List Unit
 unfolding opens
-parents f [] = []
-parents f (u ∷ us) = cond (opens (u .id) && f u) (u ∷ parents f us) (parents f us)
+parentsThat f [] = []
+parentsThat f (u ∷ us) = cond (opens (u .id) && f u) (u ∷ parentsThat f us) (parentsThat f us)
 
 -- Those that end later are open.
 unfoldable pub openAt : ℕ → List Unit → List Unit
-unfolding parents
-openAt pos us = parents (λ u. ltb pos (u .end)) us
+unfolding parentsThat
+openAt pos us = parentsThat (λ u. ltb pos (u .end)) us
 
 -- Those that end at the position close.
 unfoldable pub closingAt : ℕ → List Unit → List Unit
-unfolding parents
-closingAt pos us = parents (λ u. eqb (u .end) pos) us
+unfolding parentsThat
+closingAt pos us = parentsThat (λ u. eqb (u .end) pos) us
 
 unfoldable pub firstStarts : ℕ → List Unit → Bool
 firstStarts at [] = false

@@ -2,7 +2,7 @@
 use mathlib.Core.Path.{ap}
 use mathlib.Core.List.{[], _∷_}
 use borrow.Author.Needs.{needs}
-use Rattle.cdf_unit_list.specs.Check.{Answer}
+use Rattle.cdf_unit_list.specs.Check.{Verdict}
 use Rattle.cdf_check.specs.Answers.{asAnswer}
 use Rattle.cdf_check_c.proofs.cdf_check.Statement.{statement}
 use Rattle.cdf_check_c.proofs.cdf_check.Tie as tie
@@ -20,13 +20,13 @@ returns : tie.Need-returns
 unfolding asAnswer
 returns c =
     let told = rw (c .before .before .n .given .1) at (c .before .before .before .before .check .ensures .0) in
-    (ap (λ (a : Answer). a .number) told, ap (λ (a : Answer). a .value ∷ []) told)
+    (ap (λ (a : Verdict). a .number) told, ap (λ (a : Verdict). a .value ∷ []) told)
 
 returns-2 : tie.Need-returns-2
 unfolding asAnswer
 returns-2 c =
     let told = rw (c .before .before .number .given .1) at (c .before .before .before .before .check .ensures .0) in
-    (ap (λ (a : Answer). a .number) told, ap (λ (a : Answer). a .value ∷ []) told)
+    (ap (λ (a : Verdict). a .number) told, ap (λ (a : Verdict). a .value ∷ []) told)
 
 pub cdf-check-spec : {M : Type 1} → statement M
 cdf-check-spec =

@@ -3,7 +3,7 @@ use mathlib.Core.Path.{refl, sym, ap, _∙_}
 use borrow.Author.Needs.{needs}
 use Rattle.cdf_unit_prefix.specs.Layout.{layoutOf}
 use Rattle.cdf_unit_prefix.specs.declared.Edition.the-variants.{First}
-use Rattle.cdf_unit_list.specs.Check.{Answer}
+use Rattle.cdf_unit_list.specs.Check.{Verdict}
 use Rattle.cdf_check.specs.Answers.{asAnswer}
 use Rattle.cdf_lookup.proofs.Rooted.{refused-some}
 use Rattle.cdf_lookup.proofs.fault_of.Statement.{statement}
@@ -25,7 +25,7 @@ returns c =
     let is = c .enum-told .given .1 in
     let numbers = rw is at (told .0) in
     let w = told .1 .1 _ .0 is in
-    (ap (λ (a : Answer). a .number) numbers, ((λ some. absurd (some refl)), (λ z. (w .0, w .1))))
+    (ap (λ (a : Verdict). a .number) numbers, ((λ some. absurd (some refl)), (λ z. (w .0, w .1))))
 
 returns-2 : tie.Need-returns-2
 unfolding asAnswer
@@ -34,8 +34,8 @@ returns-2 c =
     let is = c .before .number .given .1 in
     let numbers = rw is at (told .0) in
     let s = c .before .before .before .before .before .args .s .now in (
-      ap (λ (a : Answer). a .number) numbers,
-      ((λ some. ap (λ (a : Answer). a .value) numbers), (λ z. absurd (refused-some (layoutOf First) s _ _ (sym is ∙ told .1 .0) z))),
+      ap (λ (a : Verdict). a .number) numbers,
+      ((λ some. ap (λ (a : Verdict). a .value) numbers), (λ z. absurd (refused-some (layoutOf First) s _ _ (sym is ∙ told .1 .0) z))),
     )
 
 pub fault-of-spec : {M : Type 1} → statement M
