@@ -1,6 +1,6 @@
 -- Requests that a tree of the published grammar tells are refused for nothing but where they join.
 use Prim.Native.Nat.{ℕ}
-use mathlib.Core.Path.{_≡_, refl, sym, ap, _∙_}
+use mathlib.Core.Path.{_≡_, refl}
 use mathlib.Core.Bool.{Bool, true, false, not, _||_}
 use mathlib.Core.List.{List, [], _∷_, append-nil}
 use mathlib.Core.Logic.{inl, inr}
@@ -13,15 +13,12 @@ use Rattle.cdf_unit_prefix.specs.Layout.{Layout, idAt}
 use Rattle.cdf_unit_data.specs.Data.{ownData}
 use Rattle.cdf_unit_data.specs.declared.Own.the-variants.{Taken}
 use Rattle.cdf_unit_list.specs.Check.{checkOf}
-use Rattle.cdf_grammar.specs.Trees.{Forest, none, tree}
+use Rattle.cdf_grammar.specs.Trees.{Forest}
 use Rattle.cdf_grammar.specs.Published.{Among, Follows, TextIs, productionOf}
-use Rattle.cdf_grammar.specs.Encoding.{Stream, Item, encode}
+use Rattle.cdf_grammar.specs.Encoding.{Item}
 use Rattle.cdf_grammar.proofs.Fits.{ownOf}
-use Rattle.cdf_grammar.proofs.Built.{encode-tree}
 use Rattle.cdf_grammar.proofs.KindsAgree.{acts-agree, acts-known}
 use Rattle.cdf_grammar.proofs.TextAgrees.{text-taken, text-exact}
-use Rattle.cdf_grammar.proofs.Prefixes.{id-read}
-use Rattle.cdf_grammar.proofs.Unique.{unit-parts}
 use Rattle.cdf_reader_spec.specs.Calls.{isGroup}
 use Rattle.cdf_builder_spec.specs.declared.Begun.{Begun}
 use Rattle.cdf_builder_spec.specs.Requests.{unit, group, joinNumber, wholeData, rightData, refused}
@@ -69,10 +66,3 @@ module _ (l : Layout) (os : List Begun) where
       is : Among id (erGroup ∷ fileGroup ∷ []) → isGroup id ≡ true
       is (inl e) = rw e
       is (inr (inl e)) = rw e
-
--- The id of a stream's root stands in its bytes.
-pub root-read : (l : Layout) (g : List ℕ) (id action : ℕ) (text : List ℕ) (inner : Forest) →
-    Stream l g (tree id action text inner none) → idAt l g ≡ id
-root-read l g id action text inner s =
-    ap (idAt l) (sym (s .bytes) ∙ encode-tree l id action text inner none ∙ unit-parts l id action text (encode l inner) (encode l none))
-    ∙ id-read l _ action id _

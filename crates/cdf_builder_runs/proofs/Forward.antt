@@ -20,6 +20,7 @@ use Rattle.cdf_grammar.specs.Encoding.{Stream, Item}
 use Rattle.cdf_grammar.proofs.Fits.{through, through-none, complete-some, Passes}
 use Rattle.cdf_grammar.proofs.Agrees.{fits, root-agrees}
 use Rattle.cdf_grammar.proofs.Proved.{proved}
+use Rattle.cdf_grammar.proofs.Within.{root-read}
 use Rattle.cdf_builder_spec.specs.declared.Begun.{Begun}
 use Rattle.cdf_builder_spec.specs.Place.{BuilderPlace}
 use Rattle.cdf_builder_spec.specs.Requests.{Request, unit, group, idOf, joinNumber, advanced, entering, completed, refused, grown}
@@ -28,7 +29,7 @@ use Rattle.cdf_builder_spec.proofs.Replying.{rootPlace, entering-group}
 use Rattle.cdf_builder_runs.specs.Runs.{rootItem}
 use Rattle.cdf_builder_runs.proofs.Admitted.{Admitted, placeAfter, placeAfter-append, admitted-append, admitted-front}
 use Rattle.cdf_builder_runs.proofs.Shut.{Shut, shut-append, shut-below, shut-completed, joins, joined-on}
-use Rattle.cdf_builder_runs.proofs.Asked.{unit-asked, group-asked, root-read}
+use Rattle.cdf_builder_runs.proofs.Asked.{unit-asked, group-asked}
 
 -- An open unit once it is in this state.
 abbrev pub inState : Begun → ℕ → Begun

@@ -1,8 +1,8 @@
 -- What a request is that no rule refuses: a unit that follows its production, or the bytes of a group's tree.
 use Prim.Native.Nat.{ℕ}
-use mathlib.Core.Path.{_≡_, refl, sym}
+use mathlib.Core.Path.{_≡_, refl}
 use mathlib.Core.Bool.{Bool, true, false, cond, not, _||_, false≢true}
-use mathlib.Core.List.{List, [], _∷_, cons≢nil}
+use mathlib.Core.List.{List, [], _∷_}
 use mathlib.Core.Logic.{inl, inr, ⊎-elim}
 use native.Mathlib.Omega.{arith}
 use borrow.Author.Tests.{eqb-true, not-false}
@@ -18,18 +18,17 @@ use Rattle.cdf_unit_data.specs.Data.{ownData}
 use Rattle.cdf_unit_data.specs.declared.Own.{Own}
 use Rattle.cdf_unit_data.specs.declared.Own.the-variants.{Taken, Broken}
 use Rattle.cdf_unit_list.specs.Check.{checkOf}
-use Rattle.cdf_grammar.specs.Trees.{Forest, none, tree, ids}
+use Rattle.cdf_grammar.specs.Trees.{Forest, none, tree}
 use Rattle.cdf_grammar.specs.Published.{Among, TextIs, productionOf}
 use Rattle.cdf_grammar.specs.Encoding.{Bytes, Stream, Item}
 use Rattle.cdf_grammar.proofs.KindsAgree.{acts-agree}
 use Rattle.cdf_grammar.proofs.TextAgrees.{taken-text}
-use Rattle.cdf_grammar.proofs.Agrees.{root-agrees}
+use Rattle.cdf_grammar.proofs.Within.{stream-root}
 use Rattle.cdf_grammar.proofs.Proved.{proved}
 use Rattle.cdf_reader_spec.specs.Calls.{isGroup}
 use Rattle.cdf_builder_spec.specs.Requests.{unit, group, wholeData, rightData, acceptedGroup, refused}
 use Rattle.cdf_builder_spec.specs.declared.Begun.{Begun}
 use Rattle.cdf_builder_spec.proofs.Joining.{Joins, joined-is}
-use Rattle.cdf_builder_runs.proofs.Asked.{root-read}
 
 -- The own data is as the production says.
 right-text : (id : ℕ) (text : List ℕ) → known id ≡ true → rightData id text ≡ true → TextIs (productionOf id .text) text
@@ -70,14 +69,6 @@ pub record GroupPassed (l : Layout) (os : List Begun) (g : List ℕ) : Type 0 wh
   pub kind : Among (idAt l g) (erGroup ∷ fileGroup ∷ [])
   pub stream : Stream l g (tree (idAt l g) action text inner none)
 
--- A tree with one root.
-one-root : (t : Forest) (id : ℕ) → ids t ≡ id ∷ [] →
-    (action : ℕ) × (text : List ℕ) × (inner : Forest) × (t ≡ tree id action text inner none)
-unfolding ids
-one-root none id e = absurd (cons≢nil (sym e))
-one-root (tree i action text inner none) id e = (action, text, inner, cc)
-one-root (tree i action text inner (tree j a s f x)) id e = let z : j ∷ ids x ≡ [] = cc in absurd (cons≢nil z)
-
 pub group-rules : (l : Layout) (os : List Begun) (g : List ℕ) → refused l os (group g) 0 ≡ 0 →
     Joins os (idAt l g) × (checkOf l g .number ≡ 0) × (isGroup (idAt l g) ≡ true)
 unfolding refused acceptedGroup
@@ -85,18 +76,6 @@ group-rules l os g r =
     let a = past (not (acceptedGroup l g)) 14 _ (λ z. omega arith) r in
     let w = both (eqb (checkOf l g .number) 0) (isGroup (idAt l g)) (not-false (acceptedGroup l g) (a .0)) in
     (joined-is os (idAt l g) 0 (a .1) .0, eqb-true (checkOf l g .number) 0 (w .0), w .1)
-
--- A stream is a tree whose root has the id that its prefix says.
-read-root : (l : Layout) (g : List ℕ) (id action : ℕ) (text : List ℕ) (inner : Forest) → Stream l g (tree id action text inner none) →
-    Stream l g (tree (idAt l g) action text inner none)
-read-root l g id action text inner s = rw (root-read l g id action text inner s) s
-
-stream-root : (l : Layout) (g : List ℕ) (t : Forest) → Stream l g t →
-    (action : ℕ) × (text : List ℕ) × (inner : Forest) × Stream l g (tree (idAt l g) action text inner none)
-stream-root l g t s =
-    let root = root-agrees t .0 (s .tree .root) in
-    let one = one-root t (root .0) (root .1) in
-    (one .0, one .1, one .2, read-root l g (root .0) (one .0) (one .1) (one .2) (rw (one .3) at s))
 
 pub group-kind : (id : ℕ) → isGroup id ≡ true → Among id (erGroup ∷ fileGroup ∷ [])
 group-kind id e =

@@ -2,7 +2,7 @@
 -- exactly of the streams of the published grammar.
 use Prim.Native.Nat.{ℕ, suc, _<_}
 use mathlib.Core.Path.{_≡_, refl, sym, ap, _∙_}
-use mathlib.Core.Bool.{true, false}
+use mathlib.Core.Bool.{Bool, true, false}
 use mathlib.Core.List.{List, [], _∷_}
 use mathlib.Core.Logic.{_↔_}
 use native.Mathlib.Omega.{arith}
@@ -12,7 +12,7 @@ use Rattle.cdf_unit_prefix.specs.Layout.{Layout, layoutOf}
 use Rattle.cdf_unit_prefix.specs.declared.Edition.{Edition}
 use Rattle.cdf_unit_judge.specs.Judge.{judgeOf}
 use Rattle.cdf_unit_judge.specs.declared.Judged.{Judged}
-use Rattle.cdf_unit_list.specs.Units.{End, unfinished, ended, fault, listing, listingIn}
+use Rattle.cdf_unit_list.specs.Units.{End, unfinished, ended, fault, listBy, listing, listingIn}
 use Rattle.cdf_unit_list.specs.Check.{Verdict, checkOf, checkIn}
 use Rattle.cdf_unit_list.proofs.Numbered.{numbered}
 use Rattle.cdf_grammar.specs.Trees.{Forest, units}
@@ -41,17 +41,19 @@ module _ (l : Layout) (s : List ℕ) (j : Judged) (r : Checked) (q : r ≡ front
       let w : r ≡ front l s (judgeOf l false state s) = rw (← e) q in
       (ap asAnswer w ∙ answer-same l false state s, w ∙ same l false state s)
 
-module _ (e : Edition) (s : List ℕ) (b : Bytes s) where
-  -- No refusal has the number 0.
-  refused-numbered : (k at : ℕ) → Refused k at ≡ checkedOf (listing (layoutOf e) s) → k ≡ 0 → ⊥
-  unfolding checkedOf listing
-  refused-numbered k at q z = go (listing (layoutOf e) s .end) refl q
-    where
-      go : (x : End) → listing (layoutOf e) s .end ≡ x → Refused k at ≡ checkedBy (length (listing (layoutOf e) s .units)) x → ⊥
-      go unfinished y f = let g : k ≡ 99 = cc in omega arith
-      go ended y f = clash cc
-      go (fault n i) y f = let g : k ≡ n = cc in omega (arith, numbered (layoutOf e) s true 0 y)
+-- No refusal has the number 0.
+pub refused-numbered : (l : Layout) (s : List ℕ) (root : Bool) (state k at : ℕ) →
+    Refused k at ≡ checkedOf (listBy l s (judgeOf l root state s)) → k ≡ 0 → ⊥
+unfolding checkedOf
+refused-numbered l s root state k at q z = go (listBy l s (judgeOf l root state s) .end) refl q
+  where
+    go : (x : End) → listBy l s (judgeOf l root state s) .end ≡ x →
+        Refused k at ≡ checkedBy (length (listBy l s (judgeOf l root state s) .units)) x → ⊥
+    go unfinished y f = let g : k ≡ 99 = cc in omega arith
+    go ended y f = clash cc
+    go (fault n i) y f = let g : k ≡ n = cc in omega (arith, numbered l s root state y)
 
+module _ (e : Edition) (s : List ℕ) (b : Bytes s) where
   module _ (n : ℕ) where
     -- The number and value of an answer for a stream.
     counted : (t : Forest) → Stream (layoutOf e) s t → checkOf (layoutOf e) s ≡ record { number = 0; value = units t }
@@ -59,7 +61,7 @@ module _ (e : Edition) (s : List ℕ) (b : Bytes s) where
 
     pub exact : (r : Checked) → (asAnswer r ≡ checkOf (layoutOf e) s) × (r ≡ checkedOf (listing (layoutOf e) s)) →
         (r ≡ Accepted n) ↔ ((t : Forest) × Stream (layoutOf e) s t × (units t ≡ n))
-    unfolding asAnswer
+    unfolding asAnswer listing
     exact (Accepted m) (p, q) = (
       λ a.
           let same-count : m ≡ n = cc in
@@ -69,5 +71,5 @@ module _ (e : Edition) (s : List ℕ) (b : Bytes s) where
     )
     exact (Refused k at) (p, q) = (
       λ a. clash cc,
-      λ w. absurd (refused-numbered k at q (ap (λ (x : Verdict). x .number) (p ∙ counted (w .0) (w .1)))),
+      λ w. absurd (refused-numbered (layoutOf e) s true 0 k at q (ap (λ (x : Verdict). x .number) (p ∙ counted (w .0) (w .1)))),
     )

@@ -1,26 +1,19 @@
 -- The ids that pass a test, found one after the other and kept in entries that were 0.
-use Prim.Native.Nat.{ℕ, suc, _+_, _-_, _<_, _≤_}
+use Prim.Native.Nat.{ℕ, suc, _+_, _<_, _≤_}
 use mathlib.Core.Path.{_≡_, refl}
 use mathlib.Core.Bool.{Bool, true, false, not}
-use mathlib.Core.List.{List, [], _∷_, _++_, append-nil}
+use mathlib.Core.List.{List, [], _∷_, append-nil}
 use native.Mathlib.Omega.{arith}
 use lib.Dec.{eqb, ltb, ltb→lt}
 use lib.ListN.{length, set, replicate, length-append}
-use lib.Seq.{set-append-seam, append-snoc}
 use Rattle.cdf_unit_table.specs.Ids.{member, idsEnd}
 use Rattle.cdf_unit_table.specs.States.{rows, admit, rootKind}
 use Rattle.cdf_unit_table.specs.Tables.{those}
 use Rattle.cdf_unit_table.proofs.Bools.{of-cond}
 use Rattle.cdf_unit_table.proofs.Rows.{from-rows}
-use Rattle.cdf_explain.specs.Numbers.{padded}
+use Rattle.cdf_unit_table.specs.Entries.{padded}
+use Rattle.cdf_unit_table.proofs.Entries.{pad-on}
 use Rattle.cdf_explain.specs.Parts.{maysAt}
-
-pub pad-on : (n : ℕ) (xs : List ℕ) (a : ℕ) → length xs < n → set (padded n xs) (length xs) a ≡ padded n (xs ++ (a ∷ []))
-pad-on n xs a h =
-    let left = n - suc (length xs) in
-    let some : n - length xs ≡ suc left = omega arith in
-    let fewer : n - (length xs + 1) ≡ left = omega arith in
-    rw (some, set-append-seam xs 0 (replicate left 0) a, length-append xs (a ∷ []), fewer, append-snoc xs a (replicate left 0))
 
 -- 0 is no unit's id.
 admit-none : (state : ℕ) → admit state 0 ≡ 0

@@ -9,7 +9,7 @@ use Rattle.cdf_unit_table.specs.States.{unitOf, admit, rootKind}
 use Rattle.cdf_unit_table.specs.Tables.{those}
 use Rattle.cdf_unit_list.specs.declared.Open.{Open}
 use Rattle.cdf_reader_spec.specs.Slots.{noOpen}
-use Rattle.cdf_explain.specs.Numbers.{padded}
+use Rattle.cdf_unit_table.specs.Entries.{padded}
 use Rattle.cdf_explain.specs.declared.Explained.{Explained}
 use Rattle.cdf_explain.specs.declared.Choices.{Choices}
 

@@ -3,10 +3,12 @@ use Prim.Native.Nat.{ℕ, zero, suc, _≤_}
 use mathlib.Core.Path.{_≡_, refl, ap, _∙_}
 use mathlib.Core.List.{List, [], _∷_, _++_, map}
 use native.Mathlib.Omega.{arith}
-use lib.ListN.{length, getD, length-append, length-map, length-replicate}
+use lib.ListN.{length, getD, length-map}
 use Rattle.cdf_unit_list.specs.declared.Unit.{Unit}
 use Rattle.cdf_explain_spec.specs.Why.{Why}
-use Rattle.cdf_explain.specs.Numbers.{padded, explainedBy}
+use Rattle.cdf_unit_table.specs.Entries.{padded}
+use Rattle.cdf_unit_table.proofs.Entries.{padded-few}
+use Rattle.cdf_explain.specs.Numbers.{explainedBy}
 use Rattle.cdf_explain.specs.declared.Explained.{Explained}
 use Rattle.cdf_explain_c.specs.Answer.{pairs, answerOf}
 
@@ -29,10 +31,6 @@ written e =
 all-entries : (xs : List ℕ) → entries (length xs) (λ i. getD xs i 0) ≡ xs
 all-entries [] = refl
 all-entries (x ∷ xs) = ap (λ ys. x ∷ ys) (all-entries xs)
-
--- What is n numbers once it is padded was no more before.
-padded-few : (n : ℕ) (xs : List ℕ) → length (padded n xs) ≡ n → length xs ≤ n
-padded-few n xs e = omega (arith, simp (length-append, length-replicate) at e)
 
 all-pairs : (us : List Unit) → length us ≤ 4 →
     inTurn 4 (λ i. getD (padded 4 (map (λ (u : Unit). u .id) us)) i 0) (λ i. getD (padded 4 (map (λ (u : Unit). u .start) us)) i 0)

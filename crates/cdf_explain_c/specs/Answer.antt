@@ -4,7 +4,7 @@ use mathlib.Core.List.{List, [], _∷_, _++_}
 use lib.ListN.{length}
 use Rattle.cdf_unit_list.specs.declared.Unit.{Unit}
 use Rattle.cdf_explain_spec.specs.Why.{Why}
-use Rattle.cdf_explain.specs.Numbers.{padded}
+use Rattle.cdf_unit_table.specs.Entries.{padded}
 
 -- Id and start of each unit, one unit after the other.
 abbrev pub pairs : List Unit → List ℕ

@@ -8,9 +8,9 @@ use native.Mathlib.Decide.{decLt}
 use lib.ListN.{length, take, drop, length-take, take-append-drop}
 use lib.Seq.{take-take, take-length, drop-drop}
 use Rattle.cdf_unit_prefix.specs.Layout.{Layout, prefixOf}
-use Rattle.cdf_unit_table.specs.States.{opens, nothing, admit, complete, rootKind}
+use Rattle.cdf_unit_table.specs.States.{opens, nothing, admit, complete}
 use Rattle.cdf_unit_judge.specs.Judge.{judgeOf}
-use Rattle.cdf_unit_list.specs.Units.{after, ended, Listing, listing}
+use Rattle.cdf_unit_list.specs.Units.{after, ended, Listing}
 use Rattle.cdf_unit_list.specs.Stack.{opened, withState, step}
 use Rattle.cdf_unit_list.specs.Steps.{stepsFrom}
 use Rattle.cdf_unit_list.specs.declared.Unit.{Unit}
@@ -25,16 +25,16 @@ use Rattle.cdf_grammar.proofs.Fits.{through, Fits}
 use Rattle.cdf_unit_table.proofs.Parts.{drop-take}
 use Rattle.cdf_grammar.proofs.Parts.{part-left, part-bytes}
 use Rattle.cdf_grammar.proofs.Written.{textOf, UnitIs, unit-written}
-use Rattle.cdf_unit_table.proofs.Rows.{admits-nested, root-kind}
 use Rattle.cdf_unit_table.proofs.Bools.{clash}
-use Rattle.cdf_unit_list.proofs.Stepping.{fresh, step-inside, step-closes, steps-on, listing-steps}
+use Rattle.cdf_unit_table.proofs.Rows.{admits-nested}
+use Rattle.cdf_unit_list.proofs.Stepping.{fresh, step-inside, step-closes, steps-on}
 use Rattle.cdf_unit_list.proofs.Stepping.{faults, enters, opened-parent, refused-never, spent-never}
 use Rattle.cdf_grammar.proofs.Nesting.{leaves, nest-unit}
 use Rattle.cdf_grammar.proofs.Built.{encode-none, encode-tree}
 
 module _ (l : Layout) (S : List ℕ) where
   -- The steps from inside a unit that was entered.
-  abbrev stepsAfter : Unit → List Open → ℕ → List Unit → Listing
+  abbrev pub stepsAfter : Unit → List Open → ℕ → List Unit → Listing
   stepsAfter u os F us = stepsFrom F l S (step l S (opened u os) (after u)) us
 
   -- What stands from a position to the end of an open unit are trees that fit, and with them it is complete.
@@ -75,23 +75,6 @@ module _ (l : Layout) (S : List ℕ) where
         bytes = rw (encode-tree, ← v .bytes, ← rest, take-append-drop);
         full = ap (λ state. complete (through state (ids (w .trees)))) may ∙ w .full;
       }
-
--- The bytes are one tree of a root's kind that fits, within the limit.
-abbrev pub Encoded : Layout → List ℕ → Type 0
-Encoded l s =
-    (t : Forest) × (id : ℕ) × (ids t ≡ id ∷ []) × (rootKind id ≡ true) × Fits l t × (encode l t ≡ s) × (length s ≤ l .limit)
-
-root-encoded : (l : Layout) (s : List ℕ) (id : ℕ) → rootKind id ≡ true → length s ≤ l .limit → UnitIs l id s → Encoded l s
-unfolding ids
-root-encoded l s id root short v = (
-  tree id (v .action) (v .text) (v .inner) none,
-  id,
-  refl,
-  root,
-  (v .passes, v .fits, record {}),
-  rw (encode-tree, ← v .bytes, encode-none, append-nil),
-  short,
-)
 
 module _ (l : Layout) (S : List ℕ) (b : Bytes S) where
   module _ {root : Bool} {state : ℕ} {s : List ℕ} {id action own len next : ℕ} (p : Placed l root state s id action own len next)
@@ -176,20 +159,10 @@ module _ (l : Layout) (S : List ℕ) (b : Bytes S) where
       go (yes p) ends = inside-ends N ends F (omega arith) o os pos us p high q
       go (no p) ends = closing-ends l S (suc F) o os pos us (omega arith) q
 
-pub built : (l : Layout) (s : List ℕ) → Bytes s → listing l s .end ≡ ended → Encoded l s
-built l s b q = go (judgeOf l true 0 s) refl
-  where
-    n : ℕ
-    n = length s
-
-    go : (j : Judged) → judgeOf l true 0 s ≡ j → Encoded l s
-    go (Fault k at) e = absurd (refused-never l s (suc n) k (0 + at) [] (rw (listing-steps, e, faults) at q))
-    go (Found id action own len next) e =
-        let p = placed l true 0 s e in
-        let u = unitFrom 0 id action own len in
-        let inside : stepsAfter l s u [] n (u ∷ []) .end ≡ ended = rw (listing-steps, e, enters, steps-on) at q in
-        let ends = all-ends l s b (suc n) in
-        let v = entered-ends l s b p 0 n (sym (take-length s)) (omega arith) (suc n) ends n (omega arith) [] (u ∷ []) inside in
-        let all : take len s ≡ s = rw (p .whole refl, take-length) in
-        let root = root-kind 0 id (λ z. p .some (sym (p .may) ∙ z)) in
-        root-encoded l s id root (omega (arith, p .whole refl, p .short refl)) (rw all at v)
+  -- Of the unit at the front of the bytes.
+  pub front-ends : {root : Bool} {state id action own len next : ℕ} → Placed l root state S id action own len next →
+      stepsAfter l S (unitFrom 0 id action own len) [] (length S) (unitFrom 0 id action own len ∷ []) .end ≡ ended →
+      UnitIs l id (take len S)
+  front-ends p q =
+      let n = length S in
+      entered-ends p 0 n (sym (take-length S)) (omega arith) (suc n) (all-ends (suc n)) n (omega arith) [] _ q

@@ -1,7 +1,7 @@
 -- The judge passes an encoded unit that keeps the rules.
 use mathlib.Core.Path.{_≡_, refl, sym}
 use mathlib.Core.Bool.{Bool, true}
-use mathlib.Core.List.{List, [], _++_, append-assoc}
+use mathlib.Core.List.{List, [], _++_, append-assoc, append-nil}
 use Prim.Native.Nat.{ℕ, _+_, _-_, _^_, _≤_, _<_}
 use native.Mathlib.Omega.{arith}
 use lib.ListN.{length, length-append}
@@ -31,6 +31,10 @@ pub encode-tree : (l : Layout) (id action : ℕ) (text : List ℕ) (inner rest :
 unfolding encode
 encode-tree l id action text inner rest = refl
 
+pub encode-one : (l : Layout) (id action : ℕ) (text : List ℕ) (inner : Forest) →
+    encode l (tree id action text inner none) ≡ unitBytes l id action text (encode l inner)
+encode-one l id action text inner = rw (encode-tree, encode-none, append-nil)
+
 pub unit-is : (l : Layout) (id action : ℕ) (text inner : List ℕ) →
     unitBytes l id action text inner
     ≡ prefixBytes l (prefixOf l + (length text + length inner)) action id ++ (text ++ inner)
@@ -40,6 +44,10 @@ unit-is l id action text inner = refl
 pub length-unit : (l : Layout) (id action : ℕ) (text inner : List ℕ) →
     length (unitBytes l id action text inner) ≡ prefixOf l + (length text + length inner)
 length-unit l id action text inner = simp (unit-is, length-append, length-prefix)
+
+pub length-tree : (l : Layout) (id action : ℕ) (text : List ℕ) (inner rest : Forest) →
+    length (encode l (tree id action text inner rest)) ≡ sizeOf l text inner + length (encode l rest)
+length-tree l id action text inner rest = rw (encode-tree, length-append, length-unit)
 
 -- As the root (`true`) it has to be all the bytes, within the limit.
 pub unit-judged : {l : Layout} {id action : ℕ} {text : List ℕ} {inner : Forest} → Passes l id action text inner →

@@ -1,15 +1,14 @@
 -- Stepping over the encoding of trees that fit lists their units in order.
-use mathlib.Core.Path.{_≡_, refl, sym, ap, _∙_}
+use mathlib.Core.Path.{_≡_, refl, ap, _∙_}
 use mathlib.Core.Bool.{Bool, true, false}
 use mathlib.Core.List.{List, [], _∷_, _++_, append-assoc, append-nil, reverseAux, reverseAux-append, reverseAux-reverseAux-nil}
 use Prim.Native.Nat.{ℕ, suc, _+_, _-_, _^_, _≤_, _<_}
 use native.Mathlib.Omega.{arith}
-use lib.ListN.{length, take, drop, length-append, length-drop}
+use lib.ListN.{length, take, drop, length-append}
 use lib.Seq.{take-append-add, drop-at, drop-drop}
 use Rattle.cdf_unit_prefix.specs.Layout.{Layout, prefixOf}
-use Rattle.cdf_unit_table.specs.States.{opens, nothing, admit, rootKind}
-use Rattle.cdf_unit_judge.specs.Judge.{judgeOf}
-use Rattle.cdf_unit_list.specs.Units.{after, listing, ended}
+use Rattle.cdf_unit_table.specs.States.{opens, nothing, admit}
+use Rattle.cdf_unit_list.specs.Units.{after, ended}
 use Rattle.cdf_unit_list.specs.Stack.{opened, entered, withState, step}
 use Rattle.cdf_unit_list.specs.Steps.{stepsFrom}
 use Rattle.cdf_unit_list.specs.declared.Unit.{Unit}
@@ -20,11 +19,11 @@ use Rattle.cdf_grammar.specs.Trees.{Forest, none, tree, ids, units}
 use Rattle.cdf_grammar.specs.Encoding.{unitBytes, encode, list}
 use Rattle.cdf_grammar.proofs.Fits.{through, through-none, complete-some, ownOf, Passes, Fits}
 use Rattle.cdf_grammar.proofs.Prefixes.{length-prefix}
-use Rattle.cdf_grammar.proofs.Built.{encode-none, encode-tree, sizeOf, unit-is, length-unit, unit-judged}
-use Rattle.cdf_unit_table.proofs.Rows.{admits-nested, admits-root, root-opens}
+use Rattle.cdf_grammar.proofs.Built.{encode-tree, sizeOf, unit-is, length-unit, length-tree, unit-judged}
 use Rattle.cdf_unit_table.proofs.Bools.{clash}
+use Rattle.cdf_unit_table.proofs.Rows.{admits-nested}
 use Rattle.cdf_unit_list.proofs.Stepping.{fresh, step-inside, step-closes, steps-end, steps-on}
-use Rattle.cdf_unit_list.proofs.Stepping.{listing-steps, enters, opened-parent, opened-leaf}
+use Rattle.cdf_unit_list.proofs.Stepping.{enters, opened-parent, opened-leaf}
 
 -- Where the units nested in a unit with this text stand.
 abbrev innerAt : Layout → ℕ → List ℕ → ℕ
@@ -130,48 +129,47 @@ module _ (l : Layout) (S : List ℕ) where
       let at : pos + 0 ≡ pos = omega arith in
       rw (fuel, at)
 
-  module _ (small : length S < 256 ^ l .lengthBytes) where
-    over-tree : (id action : ℕ) (text : List ℕ) (inner rest : Forest) → Passes l id action text inner → Listed inner →
-        Listed rest → Listed (tree id action text inner rest)
-    unfolding units ids through withState
-    over-tree id action text inner rest p over-inner over-rest pos more o os F us here room some =
-        let next = admit (o .state) id in
-        let end = unitHere l pos id action text inner .end in
-        let bytes = unitBytes l id action text (encode l inner) in
-        let later = encode l rest ++ more in
-        let front : drop pos S ≡ bytes ++ later = rw (encode-tree, append-assoc) at here in
-        let whole : length (encode l (tree id action text inner rest)) ≡ length (bytes ++ encode l rest) = rw encode-tree in
-        let long : length (bytes ++ encode l rest) ≡ sizeOf l text inner + length (encode l rest) = simp (length-append, length-unit) in
-        let fit : sizeOf l text inner ≤ length (drop pos S) = rw front (simp (length-append, length-unit) (omega arith)) in
-        let n = o .end - pos - length (bytes ++ encode l rest) in
-        let cut : o .end - pos ≡ length (bytes ++ encode l rest) + n = omega arith in
-        let kept = take-append-add (bytes ++ encode l rest) more n in
-        let before = append-assoc bytes (encode l rest) more in
-        let behind = append-assoc bytes (encode l rest) (take n more) in
-        let left : take (o .end - pos) (drop pos S) ≡ bytes ++ (encode l rest ++ take n more) = cc in
-        let some-next : next ≡ 0 → ⊥ = λ e. some (ap (λ h. through h (ids rest)) e ∙ through-none (ids rest)) in
-        let nested : false ≡ true → ⊥ = λ r. clash cc in
-        let few : sizeOf l text inner < 256 ^ l .lengthBytes = omega (arith, length-drop pos S) in
-        let ahead = encode l rest ++ take n more in
-        let judged = unit-judged p few false (o .state) next (admits-nested (o .state) id) some-next ahead (λ r. absurd (nested r)) in
-        let fuel : suc (units inner + units rest) + F ≡ suc (units inner + (units rest + F)) = omega arith in
-        let stop : pos + length (encode l (tree id action text inner rest)) ≡ end + length (encode l rest) = omega arith in
-        rw (
-          fuel,
-          step-inside l S o os pos (omega arith),
-          left,
-          judged,
-          over-entered pos id action text inner later front p over-inner (λ state. withState o state ∷ os) next (units rest + F) us,
-          over-rest end more (withState o next) os F _ (rest-here pos id action text inner later front) (omega arith) some,
-          stop,
-          list-tree,
-          reverseAux-append,
-        )
+  over-tree : (id action : ℕ) (text : List ℕ) (inner rest : Forest) → Passes l id action text inner →
+      sizeOf l text inner < 256 ^ l .lengthBytes → Listed inner → Listed rest → Listed (tree id action text inner rest)
+  unfolding units ids through withState
+  over-tree id action text inner rest p small over-inner over-rest pos more o os F us here room some =
+      let next = admit (o .state) id in
+      let end = unitHere l pos id action text inner .end in
+      let bytes = unitBytes l id action text (encode l inner) in
+      let later = encode l rest ++ more in
+      let front : drop pos S ≡ bytes ++ later = rw (encode-tree, append-assoc) at here in
+      let whole : length (encode l (tree id action text inner rest)) ≡ length (bytes ++ encode l rest) = rw encode-tree in
+      let long : length (bytes ++ encode l rest) ≡ sizeOf l text inner + length (encode l rest) = simp (length-append, length-unit) in
+      let n = o .end - pos - length (bytes ++ encode l rest) in
+      let cut : o .end - pos ≡ length (bytes ++ encode l rest) + n = omega arith in
+      let kept = take-append-add (bytes ++ encode l rest) more n in
+      let before = append-assoc bytes (encode l rest) more in
+      let behind = append-assoc bytes (encode l rest) (take n more) in
+      let left : take (o .end - pos) (drop pos S) ≡ bytes ++ (encode l rest ++ take n more) = cc in
+      let some-next : next ≡ 0 → ⊥ = λ e. some (ap (λ h. through h (ids rest)) e ∙ through-none (ids rest)) in
+      let nested : false ≡ true → ⊥ = λ r. clash cc in
+      let ahead = encode l rest ++ take n more in
+      let judged = unit-judged p small false (o .state) next (admits-nested (o .state) id) some-next ahead (λ r. absurd (nested r)) in
+      let fuel : suc (units inner + units rest) + F ≡ suc (units inner + (units rest + F)) = omega arith in
+      let stop : pos + length (encode l (tree id action text inner rest)) ≡ end + length (encode l rest) = omega arith in
+      rw (
+        fuel,
+        step-inside l S o os pos (omega arith),
+        left,
+        judged,
+        over-entered pos id action text inner later front p over-inner (λ state. withState o state ∷ os) next (units rest + F) us,
+        over-rest end more (withState o next) os F _ (rest-here pos id action text inner later front) (omega arith) some,
+        stop,
+        list-tree,
+        reverseAux-append,
+      )
 
-    over : (f : Forest) → Fits l f → Listed f
-    over none fit = over-none
-    over (tree id action text inner rest) fit =
-        over-tree id action text inner rest (fit .0) (over inner (fit .1)) (over rest (fit .2))
+  -- The lengths have to be ones that can be written.
+  over : (f : Forest) → Fits l f → length (encode l f) < 256 ^ l .lengthBytes → Listed f
+  over none fit small = over-none
+  over (tree id action text inner rest) fit small =
+      let long = length-tree l id action text inner rest in
+      over-tree id action text inner rest (fit .0) (omega arith) (over inner (fit .1) (omega arith)) (over rest (fit .2) (omega arith))
 
 pub length-list : (l : Layout) (pos : ℕ) (t : Forest) → length (list l pos t) ≡ units t
 unfolding units list
@@ -185,36 +183,23 @@ few-units l none = omega arith
 few-units l (tree id action text inner rest) =
     let a = few-units l inner in
     let b = few-units l rest in
-    rw (encode-tree, length-append, length-unit) (omega arith)
+    rw length-tree (omega arith)
 
-root-lists : (l : Layout) → l .limit < 256 ^ l .lengthBytes → (s : List ℕ) (id action : ℕ) (text : List ℕ) (inner : Forest) →
-    rootKind id ≡ true → Fits l (tree id action text inner none) → encode l (tree id action text inner none) ≡ s →
-    length s ≤ l .limit → listing l s ≡ record { units = list l 0 (tree id action text inner none); end = ended }
-root-lists l wide s id action text inner root fit e short =
-    let here = sym e ∙ encode-tree l id action text inner none in
-    let long : length s ≡ sizeOf l text inner + length (encode l none) = rw (here, length-append, length-unit) in
-    let alone : (encode l none ≡ []) × (sizeOf l text inner ≤ l .limit) = (encode-none l, omega arith) in
-    let found = unit-judged (fit .0) (omega arith) true 0 (nothing id) (admits-root 0 id root) (root-opens id root) _ (λ r. alone) in
-    let judged : judgeOf l true 0 s ≡ Found id action (prefixOf l + ownOf id text) (sizeOf l text inner) (nothing id) = rw here found in
+-- From the unit at the front of the bytes: it alone, whatever follows.
+pub front-lists : {l : Layout} {id action : ℕ} {text : List ℕ} {inner : Forest} → Passes l id action text inner → Fits l inner →
+    sizeOf l text inner < 256 ^ l .lengthBytes → (next : ℕ) (s more : List ℕ) → s ≡ unitBytes l id action text (encode l inner) ++ more →
+    stepsFrom (suc (length s)) l s
+    (entered 0 (λ state. []) (Found id action (prefixOf l + ownOf id text) (sizeOf l text inner) next)) []
+    ≡ record { units = list l 0 (tree id action text inner none); end = ended }
+front-lists {l} {id} {action} {text} {inner} p fit small next s more here =
+    let long : length s ≡ sizeOf l text inner + length more = rw (here, length-append, length-unit) in
     let left = length s - suc (units inner) in
     let fuel : length s ≡ units inner + suc left = omega (arith, few-units l inner) in
-    let over-inner = over l s (omega arith) inner (fit .1) in
+    let over-inner = over l s inner fit (omega arith) in
     rw (
-      listing-steps,
-      judged,
       fuel,
-      over-entered l s 0 id action text inner (encode l none) here (fit .0) over-inner (λ state. []) (nothing id) (suc left) [],
+      over-entered l s 0 id action text inner more here p over-inner (λ state. []) next (suc left) [],
       steps-end,
       reverseAux-reverseAux-nil,
       list-one,
     )
-
-pub lists : (l : Layout) → l .limit < 256 ^ l .lengthBytes → (s : List ℕ) (t : Forest) (id : ℕ) → ids t ≡ id ∷ [] →
-    rootKind id ≡ true → Fits l t → encode l t ≡ s → length s ≤ l .limit →
-    listing l s ≡ record { units = list l 0 t; end = ended }
-unfolding ids
-lists l wide s none id one root fit e short = clash cc
-lists l wide s (tree i action text inner none) id one root fit e short =
-    let same : id ≡ i = cc in root-lists l wide s i action text inner (rw same at root) fit e short
-lists l wide s (tree i action text inner (tree j a x f g)) id one root fit e short =
-    clash cc

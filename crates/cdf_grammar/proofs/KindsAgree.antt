@@ -72,7 +72,7 @@ agreed id = let e = same found due idsEnd refl beyond id in
       unknown = λ o. rw o at (ap (λ (p : Facts). p .4) e);
     }
 
-among : (x : ℕ) (xs : List ℕ) → Among x xs ↔ (member x xs ≡ true)
+pub among : (x : ℕ) (xs : List ℕ) → Among x xs ↔ (member x xs ≡ true)
 unfolding member
 among x [] = (λ o. absurd o, λ e. false≢true e)
 among x (y ∷ ys) = (

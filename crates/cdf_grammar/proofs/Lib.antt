@@ -17,6 +17,7 @@ pub mod Nesting
 pub mod Forward
 pub mod Written
 pub mod Backward
+pub mod Within
 pub mod Proved
 pub mod Completing
 pub mod Person

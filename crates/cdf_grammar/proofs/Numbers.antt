@@ -36,3 +36,8 @@ number-written (suc k) at s b h =
     let low : (n * 256 + x) % 256 ≡ x = omega arith in
     let room : k < length (drop at s) = simp length-drop (omega arith) in
     rw (high, low, take-suc (drop at s) k 0 room, getD-drop at s k 0, number-written k at s b (omega arith))
+
+pub number-below : (k at : ℕ) (s : List ℕ) → Bytes s → numberAt k at s < 256 ^ k
+unfolding numberAt
+number-below zero at s b = omega arith
+number-below (suc k) at s b = omega (arith, pow-suc 256 k, number-below k at s b, byte-at s b (at + k))

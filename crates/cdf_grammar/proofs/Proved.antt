@@ -7,35 +7,24 @@ use native.Mathlib.Omega.{arith}
 use lib.ListN.{length}
 use Rattle.cdf_unit_prefix.specs.Layout.{Layout, layoutOf}
 use Rattle.cdf_unit_table.specs.States.{rootKind}
-use Rattle.cdf_unit_list.specs.Units.{End, unfinished, ended, fault, Listing, listing}
-use Rattle.cdf_unit_list.specs.Check.{Verdict, answerOf, checkOf}
+use Rattle.cdf_unit_list.specs.Units.{ended, Listing, listing}
+use Rattle.cdf_unit_list.specs.Check.{Verdict, checkOf}
 use Rattle.cdf_unit_list.specs.Samples.{k2}
 use Rattle.cdf_unit_prefix.specs.declared.Edition.{Edition}
 use Rattle.cdf_unit_prefix.specs.declared.Edition.the-variants.{First, Second}
-use Rattle.cdf_unit_list.proofs.Numbered.{numbered}
 use Rattle.cdf_grammar.specs.Trees.{Forest, ids, units}
 use Rattle.cdf_grammar.specs.Encoding.{Bytes, Stream, encode, list, says}
 use Rattle.cdf_grammar.specs.Example.{person}
 use Rattle.cdf_grammar.specs.Claims.{Accepted, itemsOf, InEdition, Claims}
 use Rattle.cdf_grammar.proofs.Fits.{Fits}
 use Rattle.cdf_grammar.proofs.Agrees.{fits, conforms, root-agrees}
-use Rattle.cdf_grammar.proofs.Forward.{lists, length-list}
-use Rattle.cdf_grammar.proofs.Backward.{built}
+use Rattle.cdf_grammar.proofs.Forward.{length-list}
+use Rattle.cdf_grammar.proofs.Within.{lists, built, accepted-ends}
 use Rattle.cdf_grammar.proofs.Heights.{depth-most}
 use Rattle.cdf_grammar.proofs.Person.{person-grammatical}
 use Rattle.cdf_grammar.proofs.OneKind.{one-kind}
 use Rattle.cdf_grammar.proofs.Unique.{unique}
 use Rattle.cdf_grammar.proofs.Items.{said-once, items}
-
--- An answer of 0 is a list that ended: a fault has another number.
-ends : (l : Layout) (s : List ℕ) → Accepted l s → listing l s .end ≡ ended
-unfolding checkOf
-ends l s e = go (listing l s .end) refl e
-  where
-    go : (x : End) → listing l s .end ≡ x → answerOf (length (listing l s .units)) x .number ≡ 0 → listing l s .end ≡ ended
-    go unfinished q e = absurd (omega arith)
-    go ended q e = q
-    go (fault n at) q e = absurd (omega (arith, numbered l s true 0 q))
 
 module _ (l : Layout) (room : l .limit < 256 ^ l .lengthBytes) where
   -- A stream of the published grammar, in the words of the rules of one unit.
@@ -61,8 +50,9 @@ module _ (l : Layout) (room : l .limit < 256 ^ l .lengthBytes) where
   counted s t p = rw (whole s t p, length-list l 0 t)
 
   stream-of : (s : List ℕ) → Bytes s → Accepted l s → (t : Forest) × Stream l s t
+  unfolding checkOf
   stream-of s b e =
-      let w = built l s b (ends l s e) in (
+      let w = built l s b (accepted-ends l true 0 s e) in (
         w .0,
         record {
           tree = record { root = root-agrees (w .0) .1 (w .1, w .2, w .3); conforms = conforms l (w .0) (w .4) };
@@ -89,7 +79,7 @@ module _ (l : Layout) (room : l .limit < 256 ^ l .lengthBytes) where
       sym (p .bytes) ∙ ap (encode l) same ∙ q .bytes
 
 -- A length field can say the longest stream.
-roomy : (e : Edition) → layoutOf e .limit < 256 ^ layoutOf e .lengthBytes
+pub roomy : (e : Edition) → layoutOf e .limit < 256 ^ layoutOf e .lengthBytes
 roomy First = omega arith
 roomy Second = omega arith
 

@@ -12,7 +12,7 @@ use Rattle.cdf_grammar.specs.Trees.{Forest, none, tree}
 use Rattle.cdf_grammar.specs.Encoding.{prefixBytes, unitBytes, encode}
 use Rattle.cdf_grammar.proofs.Fits.{ownOf, Passes, Fits}
 use Rattle.cdf_grammar.proofs.Prefixes.{length-prefix, length-read, action-read, id-read}
-use Rattle.cdf_grammar.proofs.Built.{length-unit}
+use Rattle.cdf_grammar.proofs.Built.{length-unit, length-tree}
 
 -- Where the first parts are equally long, both parts are equal.
 split : (a b c d : List ℕ) → length a ≡ length c → a ++ b ≡ c ++ d → (a ≡ c) × (b ≡ d)
@@ -68,14 +68,6 @@ unit-same l i j a b s t f g x y size e =
     (cc (unit-parts l i a s f x, unit-parts l j b t g y)) in
     let v = split (s ++ f) x (t ++ g) y (simp length-append (omega (arith, w .0))) (simp append-assoc (w .3)) in
     (w .2, w .1, v .0, v .1)
-
-length-tree : (l : Layout) (id action : ℕ) (text : List ℕ) (inner rest : Forest) →
-    length (encode l (tree id action text inner rest))
-    ≡ prefixOf l + (length text + length (encode l inner)) + length (encode l rest)
-unfolding encode
-length-tree l id action text inner rest =
-    let unit = unitBytes l id action text (encode l inner) in
-    rw (length-append unit (encode l rest), length-unit l id action text (encode l inner))
 
 pub unique : (l : Layout) (t u : Forest) → Fits l t → Fits l u → length (encode l t) < 256 ^ l .lengthBytes →
     encode l t ≡ encode l u → t ≡ u

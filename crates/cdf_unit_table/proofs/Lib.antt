@@ -2,6 +2,7 @@ pub mod Bools
 pub mod Tests
 pub mod Match
 pub mod Tables
+pub mod Entries
 pub mod Parts
 pub mod Rows
 pub mod Heights
