@@ -6,7 +6,6 @@ ghost use lib.ListN.{drop};
 ghost use Rattle.cdf_unit_prefix.specs.Layout.{layoutOf};
 ghost use Rattle.cdf_grammar.specs.Encoding.{bytesOf, unitBytes};
 ghost use Rattle.cdf_builder_write.specs.Patch.{patch};
-ghost use Rattle.cdf_builder_spec.specs.Place.{standing};
 ghost use Rattle.cdf_builder_spec.specs.Calls.{lengths, writeOf};
 ghost use Rattle.cdf_builder_append.specs.Held.{held};
 use cdf_builder_spec::Begun;
@@ -29,7 +28,7 @@ fn write_open(edition: Edition, buffer: &mut [u8], written: usize, o: Begun)
 
 // Writes the lengths of the units around the innermost one, from the outermost inwards.
 fn rewrite_around(edition: Edition, buffer: &mut [u8], p: Parts)
-    ensures { λ r. ⌜ now (buffer .exit) ≡ lengths (layoutOf edition) (drop 1 (standing (held p))) (now (buffer .entry)) ⌝ }
+    ensures { λ r. ⌜ now (buffer .exit) ≡ lengths (layoutOf edition) (p .written) (drop 1 (held p .units)) (now (buffer .entry)) ⌝ }
 {
     let o1 = p.o1;
     let o2 = p.o2;
@@ -50,7 +49,7 @@ fn rewrite_around(edition: Edition, buffer: &mut [u8], p: Parts)
 
 // Writes the lengths of all open units.
 fn rewrite(edition: Edition, buffer: &mut [u8], p: Parts)
-    ensures { λ r. ⌜ now (buffer .exit) ≡ lengths (layoutOf edition) (standing (held p)) (now (buffer .entry)) ⌝ }
+    ensures { λ r. ⌜ now (buffer .exit) ≡ lengths (layoutOf edition) (p .written) (held p .units) (now (buffer .entry)) ⌝ }
 {
     if p.count == 0 {
         return;

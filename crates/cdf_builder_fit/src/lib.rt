@@ -3,7 +3,7 @@ ghost use mathlib.Core.Path.{_≡_};
 ghost use mathlib.Core.Bool.{_&&_, _||_};
 ghost use lib.Dec.{ltb};
 ghost use Rattle.cdf_unit_prefix.specs.Layout.{layoutOf};
-ghost use Rattle.cdf_builder_spec.specs.Place.{stands, buildable, fits};
+ghost use Rattle.cdf_builder_spec.specs.Place.{buildable, fits};
 ghost use Rattle.cdf_builder_spec.specs.Slots.{placed};
 use cdf_builder_spec::Begun;
 use cdf_builder_spec::Parts;
@@ -26,9 +26,9 @@ fn are_buildable(count: usize, top: Begun, o1: Begun, o2: Begun, o3: Begun) -> b
             & (((count < 3) | is_unskipped(o2.state)) & ((count < 2) | is_unskipped(o1.state))))
 }
 
-// The unit as it stands: it ends where the writing does.
-fn standing(written: usize, o: Begun) -> Open
-    ensures { λ r. ⌜ r ≡ stands written o ⌝ }
+// The unit as the reader would have it, of which the chain of open units is asked: it ends where the writing stands.
+fn as_open(written: usize, o: Begun) -> Open
+    ensures { λ r. ⌜ r ≡ record { state = o .state; start = o .start; end = written } ⌝ }
 {
     Open {
         state: o.state,
@@ -63,9 +63,9 @@ pub fn is_fit(edition: Edition, n: usize, p: Parts) -> bool
         edition,
         written,
         count,
-        standing(written, top),
-        standing(written, o1),
-        standing(written, o2),
-        standing(written, o3),
+        as_open(written, top),
+        as_open(written, o1),
+        as_open(written, o2),
+        as_open(written, o3),
     )
 }

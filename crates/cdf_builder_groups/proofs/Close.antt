@@ -2,7 +2,7 @@
 use Prim.Native.Nat.{ℕ, _<_}
 use mathlib.Core.Path.{_≡_, refl, sym, ap, _∙_}
 use mathlib.Core.Bool.{true, not, _||_}
-use mathlib.Core.List.{List, [], _∷_, map}
+use mathlib.Core.List.{List, [], _∷_}
 use mathlib.Core.Logic.{inl, inr}
 use native.Mathlib.Omega.{arith}
 use borrow.Author.Tests.{eqb-true}
@@ -18,12 +18,11 @@ use Rattle.cdf_unit_table.proofs.Tests.{is-true}
 use Rattle.cdf_unit_prefix.specs.Layout.{Layout, idAt}
 use Rattle.cdf_grammar.specs.Published.{Among}
 use Rattle.cdf_reader_spec.specs.Place.{nested}
-use Rattle.cdf_reader_spec.proofs.Fitting.{Kinds}
-use Rattle.cdf_builder_spec.specs.Place.{BuilderPlace, stands, standing, fits}
+use Rattle.cdf_builder_spec.specs.Place.{BuilderPlace, fits}
 use Rattle.cdf_builder_spec.specs.Requests.{Request, unit, group, idOf, joining, joinNumber, refused}
 use Rattle.cdf_builder_spec.specs.Calls.{Reply}
 use Rattle.cdf_builder_spec.specs.declared.Begun.{Begun}
-use Rattle.cdf_builder_spec.proofs.Fitting.{fitting}
+use Rattle.cdf_builder_spec.proofs.Fitting.{Kinds, fitting}
 use Rattle.cdf_builder_spec.proofs.Replying.{call-number, call-fitting}
 use Rattle.cdf_builder_runs.specs.Runs.{answer}
 use Rattle.cdf_builder_groups.specs.Claims.{NoCall}
@@ -54,10 +53,10 @@ top : height (unitOf streamGroup) ≡ 4
 unfolding height unitOf
 top = refl
 
-stream-outer : (w : ℕ) (o : Begun) (os : List Begun) → o .state ≡ streamGroup → Kinds (map (stands w) (o ∷ os)) → os ≡ []
+stream-outer : (o : Begun) (os : List Begun) → o .state ≡ streamGroup → Kinds (o ∷ os) → os ≡ []
 unfolding nested
-stream-outer w o [] is kinds = refl
-stream-outer w o (p ∷ os) is kinds =
+stream-outer o [] is kinds = refl
+stream-outer o (p ∷ os) is kinds =
     let lower = kind-lower (unitOf (p .state)) (unitOf (o .state)) (both (admitsKind (unitOf (p .state)) (unitOf (o .state))) _ kinds .0) in
     let high : 4 < height (unitOf (p .state)) = rw (is, top) at lower in
     absurd (omega (arith, height-most (unitOf (p .state)), high))
@@ -90,7 +89,6 @@ module _ (l : Layout) (a : Reply) (g : List ℕ) (zero : answer l a (group g) .n
 
   -- The stream alone is open.
   alone : (o : Begun) × (o .state ≡ streamGroup) × (next .place .units ≡ o ∷ [])
-  unfolding standing
   alone =
       let (j, checked, is) = group-rules l (a .place .units) g (answer-called l a (group g) zero .0) in
       let id = idAt l g in
@@ -99,7 +97,7 @@ module _ (l : Layout) (a : Reply) (g : List ℕ) (zero : answer l a (group g) .n
       ap (λ (q : BuilderPlace). q .units) (answer-place l a (group g) zero) ∙ units-group l (a .place) (j .unit) (j .outer) g (j .joins) in
       let state = group-state (j .unit .state) id (group-kind id is) (j .admitted) in
       let kinds = rw units at (fitting l (length (next .buffer)) (next .place) next-fits .kinds) in
-      (had, state, units ∙ ap (λ os. had ∷ os) (stream-outer (next .place .written) had (j .outer) state kinds))
+      (had, state, units ∙ ap (λ os. had ∷ os) (stream-outer had (j .outer) state kinds))
 
   pub closed-after : (r : Request) → NoCall l r → answer l next r .number ≡ 7
   closed-after r w =

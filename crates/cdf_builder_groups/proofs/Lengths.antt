@@ -10,10 +10,9 @@ use Rattle.cdf_grammar.specs.Encoding.{bytesOf}
 use Rattle.cdf_grammar.proofs.Numbers.{length-bytes}
 use Rattle.cdf_builder_write.specs.Patch.{patch}
 use Rattle.cdf_builder_write.proofs.Patching.{patch-some, patch-in, patch-behind, patch-front}
-use Rattle.cdf_builder_spec.specs.Place.{stands}
 use Rattle.cdf_builder_spec.specs.Calls.{lengths}
 use Rattle.cdf_builder_spec.specs.declared.Begun.{Begun}
-use Rattle.cdf_builder_spec.proofs.Lengths.{length-lengths}
+use Rattle.cdf_builder_spec.proofs.Lengths.{lengths-none, lengths-one, length-lengths}
 use Rattle.cdf_builder_spec.proofs.Nested.{Nested, Written}
 
 -- A patch over one of the same length.
@@ -43,68 +42,53 @@ module _ (l : Layout) where
   nested-apart w (o ∷ []) h e = (e, record {})
   nested-apart w (o ∷ p ∷ os) h e = (e, nested-apart (o .start) (p ∷ os) (h .3) (h .2))
 
-  -- Each of these units gets the length from its start to w.
-  abbrev pub put : ℕ → List Begun → List ℕ → List ℕ
-  put w os s = lengths l (map (stands w) os) s
-
   abbrev number : ℕ → Begun → List ℕ
   number w o = bytesOf (l .lengthBytes) (w - o .start)
 
-  pub put-none : (w : ℕ) (s : List ℕ) → put w [] s ≡ s
-  unfolding lengths
-  put-none w s = refl
-
-  put-one : (w : ℕ) (o : Begun) (os : List Begun) (s : List ℕ) → put w (o ∷ os) s ≡ patch (o .start + 2) (number w o) (put w os s)
-  unfolding lengths
-  put-one w o os s = refl
-
-  pub put-both : (w : ℕ) (xs ys : List Begun) (s : List ℕ) → put w (xs ++ ys) s ≡ put w xs (put w ys s)
-  put-both w [] ys s = sym (put-none w (put w ys s))
-  put-both w (x ∷ xs) ys s =
-      put-one w x (xs ++ ys) s ∙ ap (patch (x .start + 2) (number w x)) (put-both w xs ys s) ∙ sym (put-one w x xs (put w ys s))
-
-  pub length-put : (w : ℕ) (os : List Begun) (s : List ℕ) → length (put w os s) ≡ length s
-  length-put w os s = length-lengths l (map (stands w) os) s
+  pub lengths-both : (w : ℕ) (xs ys : List Begun) (s : List ℕ) → lengths l w (xs ++ ys) s ≡ lengths l w xs (lengths l w ys s)
+  lengths-both w [] ys s = sym (lengths-none l w (lengths l w ys s))
+  lengths-both w (x ∷ xs) ys s =
+      lengths-one l w x (xs ++ ys) s ∙ ap (patch (x .start + 2) (number w x)) (lengths-both w xs ys s) ∙ sym (lengths-one l w x xs (lengths l w ys s))
 
   -- In the front.
-  pub put-front : (w n : ℕ) (os : List Begun) (a b : List ℕ) → Apart n os → n ≤ length a → put w os (a ++ b) ≡ put w os a ++ b
-  put-front w n [] a b h room = put-none w (a ++ b) ∙ ap (λ (x : List ℕ). x ++ b) (sym (put-none w a))
-  put-front w n (o ∷ os) a b h room =
-      let inside : o .start + 2 + length (number w o) ≤ length (put w os a) =
-      omega (arith, length-bytes (l .lengthBytes) (w - o .start), length-put w os a, h .0) in
-      put-one w o os (a ++ b)
-      ∙ ap (patch (o .start + 2) (number w o)) (put-front w (o .start) os a b (h .1) (omega (arith, h .0)))
-      ∙ patch-front (o .start + 2) (number w o) (put w os a) b inside
-      ∙ ap (λ (x : List ℕ). x ++ b) (sym (put-one w o os a))
+  pub lengths-front : (w n : ℕ) (os : List Begun) (a b : List ℕ) → Apart n os → n ≤ length a → lengths l w os (a ++ b) ≡ lengths l w os a ++ b
+  lengths-front w n [] a b h room = lengths-none l w (a ++ b) ∙ ap (λ (x : List ℕ). x ++ b) (sym (lengths-none l w a))
+  lengths-front w n (o ∷ os) a b h room =
+      let inside : o .start + 2 + length (number w o) ≤ length (lengths l w os a) =
+      omega (arith, length-bytes (l .lengthBytes) (w - o .start), length-lengths l w os a, h .0) in
+      lengths-one l w o os (a ++ b)
+      ∙ ap (patch (o .start + 2) (number w o)) (lengths-front w (o .start) os a b (h .1) (omega (arith, h .0)))
+      ∙ patch-front (o .start + 2) (number w o) (lengths l w os a) b inside
+      ∙ ap (λ (x : List ℕ). x ++ b) (sym (lengths-one l w o os a))
 
   -- Behind it.
-  pub put-behind : (base w : ℕ) (os : List Begun) (a b : List ℕ) → length a ≡ base →
-      put (base + w) (map (further base) os) (a ++ b) ≡ a ++ put w os b
-  put-behind base w [] a b long = put-none (base + w) (a ++ b) ∙ ap (λ (x : List ℕ). a ++ x) (sym (put-none w b))
-  put-behind base w (o ∷ os) a b long =
+  pub lengths-behind : (base w : ℕ) (os : List Begun) (a b : List ℕ) → length a ≡ base →
+      lengths l (base + w) (map (further base) os) (a ++ b) ≡ a ++ lengths l w os b
+  lengths-behind base w [] a b long = lengths-none l (base + w) (a ++ b) ∙ ap (λ (x : List ℕ). a ++ x) (sym (lengths-none l w b))
+  lengths-behind base w (o ∷ os) a b long =
       let at : base + o .start + 2 - length a ≡ o .start + 2 = omega arith in
       let same : base + w - (base + o .start) ≡ w - o .start = omega arith in
-      put-one (base + w) (further base o) (map (further base) os) (a ++ b)
-      ∙ ap (patch (base + o .start + 2) (number (base + w) (further base o))) (put-behind base w os a b long)
-      ∙ patch-behind (base + o .start + 2) (number (base + w) (further base o)) a (put w os b) (omega arith)
-      ∙ ap₂ (λ (k m : ℕ). a ++ patch k (bytesOf (l .lengthBytes) m) (put w os b)) at same
-      ∙ ap (λ (x : List ℕ). a ++ x) (sym (put-one w o os b))
+      lengths-one l (base + w) (further base o) (map (further base) os) (a ++ b)
+      ∙ ap (patch (base + o .start + 2) (number (base + w) (further base o))) (lengths-behind base w os a b long)
+      ∙ patch-behind (base + o .start + 2) (number (base + w) (further base o)) a (lengths l w os b) (omega arith)
+      ∙ ap₂ (λ (k m : ℕ). a ++ patch k (bytesOf (l .lengthBytes) m) (lengths l w os b)) at same
+      ∙ ap (λ (x : List ℕ). a ++ x) (sym (lengths-one l w o os b))
 
   -- At the end of the front and before that.
-  put-split : (w : ℕ) (o : Begun) (os : List Begun) (a b : List ℕ) → length a ≡ o .start → Apart (o .start) os →
-      put w (o ∷ os) (a ++ b) ≡ put w os a ++ patch 2 (number w o) b
-  put-split w o os a b long h =
-      let same = length-put w os a in
-      let at : o .start + 2 - length (put w os a) ≡ 2 = omega arith in
-      put-one w o os (a ++ b)
-      ∙ ap (patch (o .start + 2) (number w o)) (put-front w (o .start) os a b h (omega arith))
-      ∙ patch-behind (o .start + 2) (number w o) (put w os a) b (omega arith)
-      ∙ ap (λ (k : ℕ). put w os a ++ patch k (number w o) b) at
+  lengths-split : (w : ℕ) (o : Begun) (os : List Begun) (a b : List ℕ) → length a ≡ o .start → Apart (o .start) os →
+      lengths l w (o ∷ os) (a ++ b) ≡ lengths l w os a ++ patch 2 (number w o) b
+  lengths-split w o os a b long h =
+      let same = length-lengths l w os a in
+      let at : o .start + 2 - length (lengths l w os a) ≡ 2 = omega arith in
+      lengths-one l w o os (a ++ b)
+      ∙ ap (patch (o .start + 2) (number w o)) (lengths-front w (o .start) os a b h (omega arith))
+      ∙ patch-behind (o .start + 2) (number w o) (lengths l w os a) b (omega arith)
+      ∙ ap (λ (k : ℕ). lengths l w os a ++ patch k (number w o) b) at
 
   -- Only the last lengths count.
-  pub put-again : (w v n : ℕ) (os : List Begun) (s : List ℕ) → Apart n os → n ≤ length s → put w os (put v os s) ≡ put w os s
-  put-again w v n [] s h room = ap (put w []) (put-none v s)
-  put-again w v n (o ∷ os) s h room =
+  pub lengths-again : (w v n : ℕ) (os : List Begun) (s : List ℕ) → Apart n os → n ≤ length s → lengths l w os (lengths l v os s) ≡ lengths l w os s
+  lengths-again w v n [] s h room = ap (lengths l w []) (lengths-none l v s)
+  lengths-again w v n (o ∷ os) s h room =
       let a = take (o .start) s in
       let b = drop (o .start) s in
       let long : length a ≡ o .start = length-take-le (o .start) s (omega (arith, h .0)) in
@@ -113,9 +97,9 @@ module _ (l : Layout) where
       let new = length-bytes (l .lengthBytes) (w - o .start) in
       let old = length-bytes (l .lengthBytes) (v - o .start) in
       rw parts at (
-      ap (put w (o ∷ os)) (put-split v o os a b long (h .1))
-      ∙ put-split w o os (put v os a) (patch 2 (number v o) b) (length-put v os a ∙ long) (h .1)
-      ∙ ap₂ (λ (x y : List ℕ). x ++ y) (put-again w v (o .start) os a (h .1) (omega arith))
+      ap (lengths l w (o ∷ os)) (lengths-split v o os a b long (h .1))
+      ∙ lengths-split w o os (lengths l v os a) (patch 2 (number v o) b) (length-lengths l v os a ∙ long) (h .1)
+      ∙ ap₂ (λ (x y : List ℕ). x ++ y) (lengths-again w v (o .start) os a (h .1) (omega arith))
       (patch-twice 2 (number w o) (number v o) b (new ∙ sym old) (omega (arith, h .0)))
-      ∙ sym (put-split w o os a b long (h .1))
+      ∙ sym (lengths-split w o os a b long (h .1))
       )

@@ -13,14 +13,15 @@ use Rattle.cdf_builder_write.specs.Patch.{patch}
 use Rattle.cdf_builder_write.proofs.Patching.{patch-behind}
 use Rattle.cdf_builder_spec.specs.Place.{BuilderPlace}
 use Rattle.cdf_builder_spec.specs.Requests.{Request, unit, group, idOf, bytesFor, joining, entering, grown}
-use Rattle.cdf_builder_spec.specs.Calls.{Reply}
+use Rattle.cdf_builder_spec.specs.Calls.{Reply, lengths}
 use Rattle.cdf_builder_spec.specs.declared.Begun.{Begun}
+use Rattle.cdf_builder_spec.proofs.Lengths.{length-lengths}
 use Rattle.cdf_builder_spec.proofs.Joining.{Joins, refused-is}
 use Rattle.cdf_builder_spec.proofs.Replying.{entering-unit, entering-group, grown-written}
 use Rattle.cdf_builder_runs.specs.Runs.{answer, run, AllDone}
 use Rattle.cdf_builder_runs.proofs.Answers.{answer-called, answer-place, answer-buffer, first-done}
 use Rattle.cdf_builder_runs.proofs.Taken.{grown-by}
-use Rattle.cdf_builder_groups.proofs.Lengths.{further, Apart, put, put-both, length-put, put-front, put-behind, put-again}
+use Rattle.cdf_builder_groups.proofs.Lengths.{further, Apart, lengths-both, lengths-front, lengths-behind, lengths-again}
 
 joining-one : (id : ℕ) (o : Begun) (os : List Begun) → joining id (o ∷ os) ≡ cond (eqb (admit (o .state) id) 0) (joining id os) (o ∷ os)
 unfolding joining
@@ -74,28 +75,28 @@ module _ (base : ℕ) (os : List Begun) where
 
   -- What is written, from any front that the lengths turn into the same.
   module _ (l : Layout) (f : List ℕ) (long : length f ≡ base) (apart : Apart l base os) where
-    writes-over : (front : List ℕ) → length front ≡ base → ((w : ℕ) → put l w os front ≡ put l w os f) →
+    writes-over : (front : List ℕ) → length front ≡ base → ((w : ℕ) → lengths l w os front ≡ lengths l w os f) →
         (w at : ℕ) (k : List Begun) (bytes rest : List ℕ) →
-        put l (base + w) (lifted k) (patch (base + at) bytes (front ++ rest)) ≡ put l (base + w) os f ++ put l w k (patch at bytes rest)
+        lengths l (base + w) (lifted k) (patch (base + at) bytes (front ++ rest)) ≡ lengths l (base + w) os f ++ lengths l w k (patch at bytes rest)
     writes-over front same again w at k bytes rest =
         let new = patch at bytes rest in
         let here : base + at - length front ≡ at = omega arith in
-        put-both l (base + w) (map (further base) k) os (patch (base + at) bytes (front ++ rest))
-        ∙ ap (λ (x : List ℕ). put l (base + w) (map (further base) k) (put l (base + w) os x))
+        lengths-both l (base + w) (map (further base) k) os (patch (base + at) bytes (front ++ rest))
+        ∙ ap (λ (x : List ℕ). lengths l (base + w) (map (further base) k) (lengths l (base + w) os x))
         (patch-behind (base + at) bytes front rest (omega arith) ∙ ap (λ (i : ℕ). front ++ patch i bytes rest) here)
-        ∙ ap (put l (base + w) (map (further base) k))
-        (put-front l (base + w) base os front new apart (omega arith) ∙ ap (λ (x : List ℕ). x ++ new) (again (base + w)))
-        ∙ put-behind l base w k (put l (base + w) os f) new (length-put l (base + w) os f ∙ long)
+        ∙ ap (lengths l (base + w) (map (further base) k))
+        (lengths-front l (base + w) base os front new apart (omega arith) ∙ ap (λ (x : List ℕ). x ++ new) (again (base + w)))
+        ∙ lengths-behind l base w k (lengths l (base + w) os f) new (length-lengths l (base + w) os f ∙ long)
 
     -- The reply a over the front, and the reply i alone.
     pub record Over (a i : Reply) : Type 0 where
       pub units : a .place .units ≡ lifted (i .place .units)
       pub written : a .place .written ≡ base + i .place .written
-      pub buffer : a .buffer ≡ put l (a .place .written) os f ++ i .buffer
+      pub buffer : a .buffer ≡ lengths l (a .place .written) os f ++ i .buffer
 
-    pub writes-as : (front : List ℕ) → length front ≡ base → ((w : ℕ) → put l w os front ≡ put l w os f) →
+    pub writes-as : (front : List ℕ) → length front ≡ base → ((w : ℕ) → lengths l w os front ≡ lengths l w os f) →
         (w at new v : ℕ) (k us : List Begun) (bytes rest s : List ℕ) → us ≡ lifted k → new ≡ base + w → v ≡ base + at → s ≡ front ++ rest →
-        put l new us (patch v bytes s) ≡ put l new os f ++ put l w k (patch at bytes rest)
+        lengths l new us (patch v bytes s) ≡ lengths l new os f ++ lengths l w k (patch at bytes rest)
     writes-as front same again w at new v k us bytes rest s units grows written is =
         rw (units, grows, written, is) (writes-over front same again w at k bytes rest)
 
@@ -107,15 +108,15 @@ module _ (base : ℕ) (os : List Begun) where
         let units = grown-over l p q r j (o .written) (o .units) in
         let grows : grown l p r .written ≡ base + grown l q r .written = omega (arith, grown-written l p r, grown-written l q r, o .written) in
         let wrote =
-        writes-as (put l (p .written) os f) (length-put l (p .written) os f ∙ long)
-        (λ w. put-again l w (p .written) base os f apart (omega arith)) (grown l q r .written) (q .written) (grown l p r .written) (p .written)
+        writes-as (lengths l (p .written) os f) (length-lengths l (p .written) os f ∙ long)
+        (λ w. lengths-again l w (p .written) base os f apart (omega arith)) (grown l q r .written) (q .written) (grown l p r .written) (p .written)
         (grown l q r .units) (grown l p r .units) (bytesFor l r) (i .buffer) (a .buffer) units grows (o .written) (o .buffer) in
         record {
           units = rw (answer-place l a r da, answer-place l i r di) units;
           written = rw (answer-place l a r da, answer-place l i r di) grows;
           buffer =
               rw (answer-place l a r da)
-              (answer-buffer l a r da ∙ wrote ∙ ap (λ (x : List ℕ). put l (grown l p r .written) os f ++ x) (sym (answer-buffer l i r di)));
+              (answer-buffer l a r da ∙ wrote ∙ ap (λ (x : List ℕ). lengths l (grown l p r .written) os f ++ x) (sym (answer-buffer l i r di)));
         }
 
     pub over-run : (rs : List Request) (a i : Reply) → Over a i → AllDone l a rs → AllDone l i rs → Over (run l a rs) (run l i rs)

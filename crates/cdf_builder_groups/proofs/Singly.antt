@@ -26,10 +26,11 @@ use Rattle.cdf_grammar.proofs.Proved.{proved}
 use Rattle.cdf_builder_write.specs.Patch.{patch}
 use Rattle.cdf_builder_spec.specs.Place.{BuilderPlace, fits}
 use Rattle.cdf_builder_spec.specs.Requests.{Request, unit, group, completed, bytesFor, refused, grown}
-use Rattle.cdf_builder_spec.specs.Calls.{Reply, Finish}
+use Rattle.cdf_builder_spec.specs.Calls.{Reply, Finish, lengths}
 use Rattle.cdf_builder_spec.specs.declared.Begun.{Begun}
 use Rattle.cdf_builder_spec.proofs.Fitting.{fitting}
 use Rattle.cdf_builder_spec.proofs.Nested.{Nested, Written, fitting-nested, outside, outside-written}
+use Rattle.cdf_builder_spec.proofs.Lengths.{lengths-none}
 use Rattle.cdf_builder_spec.proofs.Joining.{Joins}
 use Rattle.cdf_builder_spec.proofs.Replying.{rootPlace, grown-written, bytes-unit, unit-size, start-zero, start-number, start-done}
 use Rattle.cdf_builder_runs.specs.Runs.{rootItem, answer, run, AllDone, AllLent}
@@ -48,7 +49,7 @@ use Rattle.cdf_builder_runs.proofs.Said.{stream-says}
 use Rattle.cdf_builder_runs.proofs.Building.{accepted, builds}
 use Rattle.cdf_builder_groups.proofs.Told.{tells-sizes}
 use Rattle.cdf_builder_groups.proofs.Levels.{nested-shut}
-use Rattle.cdf_builder_groups.proofs.Lengths.{Apart, put, put-none, nested-apart}
+use Rattle.cdf_builder_groups.proofs.Lengths.{Apart, nested-apart}
 use Rattle.cdf_builder_groups.proofs.Over.{lifted, writes-as, Over, over-run}
 
 -- The own data of listed units are bytes of the stream.
@@ -223,13 +224,13 @@ module _ (e : Edition) (a : Reply) (g : List ℕ) (bytes : Bytes g) (begun : a .
   here = omega arith
 
   -- The whole group.
-  group-bytes : answer l a (group g) .buffer ≡ put l (grown l p (group g) .written) around front ++ (g ++ drop (length g) (alone .buffer))
+  group-bytes : answer l a (group g) .buffer ≡ lengths l (grown l p (group g) .written) around front ++ (g ++ drop (length g) (alone .buffer))
   group-bytes =
       answer-buffer l a (group g) zero
       ∙ writes-as (p .written) around l front long apart front long (λ w. refl) (length g) 0 (grown l p (group g) .written) (p .written) []
       (grown l p (group g) .units) (bytesFor l (group g)) (alone .buffer) (a .buffer) group-units group-written here parts
-      ∙ ap (λ (x : List ℕ). put l (grown l p (group g) .written) around front ++ x)
-      (put-none l (length g) _ ∙ rw (bytes-group l g) (front-put g (alone .buffer) room))
+      ∙ ap (λ (x : List ℕ). lengths l (grown l p (group g) .written) around front ++ x)
+      (lengths-none l (length g) _ ∙ rw (bytes-group l g) (front-put g (alone .buffer) room))
 
   -- Its first unit, and the start for the group alone.
   started : first alone .number ≡ 0
@@ -262,7 +263,7 @@ module _ (e : Edition) (a : Reply) (g : List ℕ) (bytes : Bytes g) (begun : a .
             (answer-buffer l a r done
             ∙ writes-as (p .written) around l front long apart front long (λ w. refl) (prefixOf l) 0 (grown l p r .written) (p .written) (top ∷ [])
             (grown l p r .units) (bytesFor l r) (alone .buffer) (a .buffer) units grows here parts
-            ∙ ap (λ (x : List ℕ). put l (grown l p r .written) around front ++ x) (rw (bytes-unit l (rootItem id)) settled));
+            ∙ ap (λ (x : List ℕ). lengths l (grown l p r .written) around front ++ x) (rw (bytes-unit l (rootItem id)) settled));
       })
 
   same : run l a units .buffer ≡ answer l a (group g) .buffer
@@ -272,7 +273,7 @@ module _ (e : Edition) (a : Reply) (g : List ℕ) (bytes : Bytes g) (begun : a .
       over-run (p .written) around l front long apart rest (answer l a (unit (rootItem id))) (first alone) first-over (each .1) alone-done in
       let size : run l a units .place .written ≡ grown l p (group g) .written =
       written ∙ ap (λ (q : BuilderPlace). q .written) (answer-place l a (group g) zero) in
-      end .buffer ∙ ap₂ (λ (k : ℕ) (x : List ℕ). put l k around front ++ x) size alone-bytes ∙ sym group-bytes
+      end .buffer ∙ ap₂ (λ (k : ℕ) (x : List ℕ). lengths l k around front ++ x) size alone-bytes ∙ sym group-bytes
 
   pub singly : Singly l a g
   singly = record {

@@ -2,7 +2,7 @@
 use Prim.Native.Nat.{ℕ, _+_, _≤_}
 use mathlib.Core.Path.{_≡_, refl, sym}
 use mathlib.Core.Bool.{true}
-use mathlib.Core.List.{List, [], _∷_, _++_, map, append-assoc, append-nil}
+use mathlib.Core.List.{List, [], _∷_, _++_, append-assoc, append-nil}
 use native.Mathlib.Omega.{arith}
 use lib.ListN.{length, drop, length-append}
 use Rattle.cdf_unit_table.specs.States.{opens, nothing, admit}
@@ -13,7 +13,6 @@ use Rattle.cdf_grammar.specs.Encoding.{encode}
 use Rattle.cdf_grammar.proofs.Fits.{through}
 use Rattle.cdf_grammar.proofs.Built.{encode-none, encode-tree, length-unit}
 use Rattle.cdf_builder_write.specs.Patch.{patch}
-use Rattle.cdf_builder_spec.specs.Place.{stands}
 use Rattle.cdf_builder_spec.specs.Requests.{Request, unit}
 use Rattle.cdf_builder_spec.specs.Calls.{lengths}
 use Rattle.cdf_builder_spec.specs.declared.Begun.{Begun}
@@ -28,7 +27,7 @@ pub record Step (l : Layout) (written : ℕ) (front added : List ℕ) (new : ℕ
   pub after : List ℕ
   pub spine : Spine l new os rs after
   pub writes : (back : List ℕ) → length added ≤ length back →
-      lengths l (map (stands new) os) (patch written added (front ++ back)) ≡ after ++ drop (length added) back
+      lengths l new os (patch written added (front ++ back)) ≡ after ++ drop (length added) back
 
 module _ (l : Layout) (written : ℕ) (o : Begun) (os : List Begun) (rs : List Request) (front : List ℕ)
     (spine : Spine l written (o ∷ os) rs front) (id : ℕ) (may : admit (o .state) id ≡ 0 → ⊥) (r : Request) where

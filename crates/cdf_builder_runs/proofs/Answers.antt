@@ -2,11 +2,11 @@
 use Prim.Native.Nat.{_≤_}
 use mathlib.Core.Path.{_≡_, refl, sym, ap, _∙_}
 use mathlib.Core.Bool.{true}
-use mathlib.Core.List.{List, [], _∷_, _++_, map}
+use mathlib.Core.List.{List, [], _∷_, _++_}
 use lib.ListN.{length}
 use Rattle.cdf_unit_prefix.specs.Layout.{Layout}
 use Rattle.cdf_builder_write.specs.Patch.{patch}
-use Rattle.cdf_builder_spec.specs.Place.{stands, standing, fits}
+use Rattle.cdf_builder_spec.specs.Place.{fits}
 use Rattle.cdf_builder_spec.specs.Requests.{Request, bytesFor, refused, grown}
 use Rattle.cdf_builder_spec.specs.Calls.{Reply, lengths, writeOf, callNumber}
 use Rattle.cdf_builder_spec.specs.Orders.{sizeWith}
@@ -44,9 +44,8 @@ module _ (l : Layout) where
 
       -- What is written: the request's bytes where the writing stands, and the lengths of the units that are then open.
       pub answer-buffer : answer l a r .buffer
-          ≡ lengths l (map (stands (grown l (a .place) r .written)) (grown l (a .place) r .units))
-          (patch (a .place .written) (bytesFor l r) (a .buffer))
-      unfolding writeOf standing
+          ≡ lengths l (grown l (a .place) r .written) (grown l (a .place) r .units) (patch (a .place .written) (bytesFor l r) (a .buffer))
+      unfolding writeOf
       answer-buffer = rw (call-done l (a .buffer) (a .place) r done)
 
   -- Of all that are done the first is.

@@ -2,12 +2,11 @@
 -- the longer ones. For any depth, any ids and any layout.
 use Prim.Native.Nat.{ℕ, _+_, _-_, _≤_}
 use mathlib.Core.Path.{_≡_, refl, sym, _∙_}
-use mathlib.Core.List.{List, [], _∷_, _++_, map, append-assoc, append-nil}
+use mathlib.Core.List.{List, [], _∷_, _++_, append-assoc, append-nil}
 use native.Mathlib.Omega.{arith}
 use lib.ListN.{length, take, drop, length-append, take-append-drop}
 use lib.Seq.{length-take-le}
 use Rattle.cdf_unit_prefix.specs.Layout.{Layout, prefixOf}
-use Rattle.cdf_unit_list.specs.declared.Open.{Open}
 use Rattle.cdf_grammar.specs.Trees.{Forest, none, tree}
 use Rattle.cdf_grammar.specs.Encoding.{bytesOf, prefixBytes, encode}
 use Rattle.cdf_grammar.proofs.Numbers.{length-bytes}
@@ -15,9 +14,9 @@ use Rattle.cdf_grammar.proofs.Prefixes.{length-prefix}
 use Rattle.cdf_grammar.proofs.Built.{encode-none, encode-tree, unit-is, length-unit}
 use Rattle.cdf_builder_write.specs.Patch.{patch}
 use Rattle.cdf_builder_write.proofs.Patching.{patch-in}
-use Rattle.cdf_builder_spec.specs.Place.{stands}
 use Rattle.cdf_builder_spec.specs.Calls.{lengths}
 use Rattle.cdf_builder_spec.specs.declared.Begun.{Begun}
+use Rattle.cdf_builder_spec.proofs.Lengths.{lengths-one}
 use Rattle.cdf_builder_runs.proofs.Forests.{append, encode-append}
 
 -- An open unit: the whole trees before it in the unit around it, and what it says itself.
@@ -35,11 +34,6 @@ shut f kids = append (f .before) (tree (f .id) (f .action) (f .text) kids none)
 unfoldable pub shutAll : List Frame → Forest → Forest
 shutAll [] kids = kids
 shutAll (f ∷ fs) kids = shutAll fs (shut f kids)
-
-lengths-one : (l : Layout) (o : Open) (os : List Open) (s : List ℕ) →
-    lengths l (o ∷ os) s ≡ patch (o .start + 2) (bytesOf (l .lengthBytes) (o .end - o .start)) (lengths l os s)
-unfolding lengths
-lengths-one l o os s = refl
 
 module _ (l : Layout) where
   -- What an open unit and the trees before it come to, with its length.
@@ -100,7 +94,7 @@ module _ (l : Layout) where
 
   -- The new lengths of all open units.
   pub relength : (w new : ℕ) (fs : List Frame) (os : List Begun) (z : List ℕ) → Placed fs os →
-      lengths l (map (stands new) os) (heads w fs ++ z) ≡ heads new fs ++ z
+      lengths l new os (heads w fs ++ z) ≡ heads new fs ++ z
   unfolding heads lengths
   relength w new [] [] z p = refl
   relength w new [] (o ∷ os) z p = absurd p
@@ -148,7 +142,7 @@ module _ (l : Layout) where
       abbrev added : List ℕ
       added = encode l x
 
-      pub grow : lengths l (map (stands (w + length added)) os) (patch w added ((heads w fs ++ encode l kids) ++ back))
+      pub grow : lengths l (w + length added) os (patch w added ((heads w fs ++ encode l kids) ++ back))
           ≡ (heads (w + length added) fs ++ encode l (append kids x)) ++ drop (length added) back
       grow =
           let front = heads w fs ++ encode l kids in
@@ -167,7 +161,7 @@ module _ (l : Layout) where
     leaf = tree (f .id) (f .action) (f .text) none none
 
     pub grow-open : (new : ℕ) → new ≡ w + length (encode l leaf) → length (encode l leaf) ≤ length back →
-        lengths l (map (stands new) (record { state = state; start = w } ∷ os)) (patch w (encode l leaf) ((heads w fs ++ encode l (f .before)) ++ back))
+        lengths l new (record { state = state; start = w } ∷ os) (patch w (encode l leaf) ((heads w fs ++ encode l (f .before)) ++ back))
         ≡ (heads new (f ∷ fs) ++ encode l none) ++ drop (length (encode l leaf)) back
     unfolding heads size
     grow-open new e room =
@@ -183,5 +177,5 @@ module _ (l : Layout) where
         rw (← one, encode-none) (simp (append-nil, append-assoc)) in
         let done : heads new fs ++ (frameBytes len f ++ rest) ≡ (heads new (f ∷ fs) ++ encode l none) ++ rest =
         rw encode-none (simp (append-nil, append-assoc)) in
-        lengths-one l (stands new (record { state = state; start = w })) (map (stands new) os) _
+        lengths-one l new (record { state = state; start = w }) os _
         ∙ (rw (grown, written, same, at) (relength-one len len f (heads new fs) rest ∙ done))

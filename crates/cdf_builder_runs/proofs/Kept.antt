@@ -2,7 +2,7 @@
 use Prim.Native.Nat.{ℕ, _+_, _-_, _≤_}
 use mathlib.Core.Path.{_≡_, refl, sym, ap, subst, _∙_}
 use mathlib.Core.Bool.{true}
-use mathlib.Core.List.{List, [], _∷_, _++_, map, append-nil, append-assoc}
+use mathlib.Core.List.{List, [], _∷_, _++_, append-nil, append-assoc}
 use mathlib.Core.Logic.{inl}
 use native.Mathlib.Omega.{arith}
 use lib.Dec.{T}
@@ -21,7 +21,7 @@ use Rattle.cdf_grammar.proofs.Fits.{through}
 use Rattle.cdf_grammar.proofs.Built.{encode-none, unit-is, length-unit}
 use Rattle.cdf_builder_write.specs.Patch.{patch}
 use Rattle.cdf_builder_write.proofs.Patching.{patch-in}
-use Rattle.cdf_builder_spec.specs.Place.{BuilderPlace, stands}
+use Rattle.cdf_builder_spec.specs.Place.{BuilderPlace}
 use Rattle.cdf_builder_spec.specs.Requests.{Request, unit, bytesFor, grown}
 use Rattle.cdf_builder_spec.specs.declared.Begun.{Begun}
 use Rattle.cdf_builder_spec.specs.Calls.{Reply, lengths, startOf, startNumber}
@@ -125,7 +125,7 @@ module _ (l : Layout) (s : List ℕ) (p : BuilderPlace) (buffer : List ℕ) (rs 
   abbrev back : List ℕ
   back = drop (length (bytesFor l r)) (drop (p .written) buffer)
 
-  kept-step : Kept l s (grown l p r) (lengths l (map (stands (grown l p r .written)) (grown l p r .units)) (patch (p .written) (bytesFor l r) buffer))
+  kept-step : Kept l s (grown l p r) (lengths l (grown l p r .written) (grown l p r .units) (patch (p .written) (bytesFor l r) buffer))
       (rs ++ (r ∷ []))
   kept-step =
       let new = grown l p r .written in
@@ -160,13 +160,13 @@ kept-run e s a rs (r ∷ more) lent k done =
 
 -- The lengths of the open units are right as they stand.
 pub kept-settled : (l : Layout) (s : List ℕ) (p : BuilderPlace) (buffer : List ℕ) (rs : List Request) → Kept l s p buffer rs →
-    lengths l (map (stands (p .written)) (p .units)) buffer ≡ buffer
+    lengths l (p .written) (p .units) buffer ≡ buffer
 kept-settled l s p buffer rs k =
     let w = k .spine in
     let back = drop (p .written) buffer in
     let same : buffer ≡ heads l (p .written) (w .frames) ++ (encode l (w .kids) ++ back) =
     sym (take-append-drop (p .written) buffer) ∙ ap (λ (x : List ℕ). x ++ back) (w .bytes)
     ∙ append-assoc (heads l (p .written) (w .frames)) (encode l (w .kids)) back in
-    ap (lengths l (map (stands (p .written)) (p .units))) same
+    ap (lengths l (p .written) (p .units)) same
     ∙ relength l (p .written) (p .written) (w .frames) (p .units) (encode l (w .kids) ++ back) (held-placed l (w .frames) (w .kids) (p .units) (w .held))
     ∙ sym same

@@ -1,8 +1,8 @@
--- Open units of a builder's place that lie in one another, as facts. Where they end does not matter here.
+-- Open units of a builder's place that lie in one another, as facts.
 use Prim.Native.Nat.{ℕ, _+_, _≤_}
 use mathlib.Core.Path.{_≡_}
 use mathlib.Core.Bool.{true, false≢true}
-use mathlib.Core.List.{List, [], _∷_, _++_, map}
+use mathlib.Core.List.{List, [], _∷_, _++_}
 use native.Mathlib.Omega.{arith}
 use borrow.Author.Tests.{leb-true, le-leb, eqb-true, eq-eqb}
 use lib.Dec.{leb}
@@ -10,11 +10,10 @@ use lib.ListN.{length}
 use Rattle.cdf_unit_table.specs.States.{unitOf, rootKind, admitsKind}
 use Rattle.cdf_unit_table.proofs.Bools.{both}
 use Rattle.cdf_unit_prefix.specs.Layout.{Layout, prefixOf}
-use Rattle.cdf_reader_spec.specs.Place.{nested, every, positioned}
-use Rattle.cdf_reader_spec.proofs.Fitting.{Kinds, Starts}
+use Rattle.cdf_reader_spec.specs.Place.{nested, every}
 use Rattle.cdf_builder_spec.specs.declared.Begun.{Begun}
-use Rattle.cdf_builder_spec.specs.Place.{BuilderPlace, stands, standing, buildable}
-use Rattle.cdf_builder_spec.proofs.Fitting.{Buildable, Fitting, at-most-four}
+use Rattle.cdf_builder_spec.specs.Place.{BuilderPlace, buildable, pastPrefix}
+use Rattle.cdf_builder_spec.proofs.Fitting.{Kinds, Buildable, Starts, Fitting, at-most-four}
 
 module _ (l : Layout) where
   -- The outermost may be a root and starts at 0; each other is of a kind that the one outside it admits, and starts a prefix
@@ -32,34 +31,33 @@ module _ (l : Layout) where
   Written w (o ∷ os) = o .start + prefixOf l ≤ w
 
   -- The clauses of a place as these facts, and back.
-  from-clauses : (w : ℕ) (us : List Begun) → Kinds (map (stands w) us) → Buildable (map (stands w) us) → Starts l (map (stands w) us) →
-      Nested us
+  from-clauses : (us : List Begun) → Kinds us → Buildable us → Starts l us → Nested us
   unfolding nested every
-  from-clauses w [] k b s = false≢true k
-  from-clauses w (o ∷ []) k b s = (both (buildable (o .state)) true b .0, k, eqb-true (o .start) 0 s)
-  from-clauses w (o ∷ p ∷ us) k b s =
-      let x = both (buildable (o .state)) (every (λ o. buildable (o .state)) (map (stands w) (p ∷ us))) b in
+  from-clauses [] k b s = false≢true k
+  from-clauses (o ∷ []) k b s = (both (buildable (o .state)) true b .0, k, eqb-true (o .start) 0 s)
+  from-clauses (o ∷ p ∷ us) k b s =
+      let x = both (buildable (o .state)) (every (λ o. buildable (o .state)) (p ∷ us)) b in
       let y = both (admitsKind (unitOf (p .state)) (unitOf (o .state))) _ k in
       let z = both (leb (p .start + prefixOf l) (o .start)) _ s in
-      (x .0, y .0, leb-true (p .start + prefixOf l) (o .start) (z .0), from-clauses w (p ∷ us) (y .1) (x .1) (z .1))
+      (x .0, y .0, leb-true (p .start + prefixOf l) (o .start) (z .0), from-clauses (p ∷ us) (y .1) (x .1) (z .1))
 
-  to-clauses : (w : ℕ) (us : List Begun) → Nested us → Kinds (map (stands w) us) × Buildable (map (stands w) us) × Starts l (map (stands w) us)
+  to-clauses : (us : List Begun) → Nested us → Kinds us × Buildable us × Starts l us
   unfolding nested every
-  to-clauses w [] h = absurd h
-  to-clauses w (o ∷ []) h = (h .1, rw (h .0), eq-eqb (o .start) 0 (h .2))
-  to-clauses w (o ∷ p ∷ us) h =
-      let rest = to-clauses w (p ∷ us) (h .3) in
+  to-clauses [] h = absurd h
+  to-clauses (o ∷ []) h = (h .1, rw (h .0), eq-eqb (o .start) 0 (h .2))
+  to-clauses (o ∷ p ∷ us) h =
+      let rest = to-clauses (p ∷ us) (h .3) in
       (rw (h .1) (rest .0), rw (h .0) (rest .1), rw (le-leb (p .start + prefixOf l) (o .start) (h .2)) (rest .2))
 
-  from-position : (w : ℕ) (us : List Begun) → positioned l w (map (stands w) us) ≡ true → Written w us
-  unfolding positioned
-  from-position w [] e = false≢true e
-  from-position w (o ∷ us) e = leb-true (o .start + prefixOf l) w (both (leb (o .start + prefixOf l) w) _ e .0)
+  from-past : (w : ℕ) (us : List Begun) → pastPrefix l w us ≡ true → Written w us
+  unfolding pastPrefix
+  from-past w [] e = false≢true e
+  from-past w (o ∷ us) e = leb-true (o .start + prefixOf l) w e
 
-  to-position : (w : ℕ) (us : List Begun) → Written w us → positioned l w (map (stands w) us) ≡ true
-  unfolding positioned
-  to-position w [] h = absurd h
-  to-position w (o ∷ us) h = rw (le-leb (o .start + prefixOf l) w h, le-leb w w (omega arith))
+  to-past : (w : ℕ) (us : List Begun) → Written w us → pastPrefix l w us ≡ true
+  unfolding pastPrefix
+  to-past w [] h = absurd h
+  to-past w (o ∷ us) h = le-leb (o .start + prefixOf l) w h
 
   some : (us : List Begun) → Nested us → 1 ≤ length us
   some [] h = absurd h
@@ -67,23 +65,20 @@ module _ (l : Layout) where
 
   module _ (n : ℕ) (p : BuilderPlace) where
     pub fitting-nested : Fitting l n p → Nested (p .units) × Written (p .written) (p .units)
-    unfolding standing
-    fitting-nested f =
-        (from-clauses (p .written) (p .units) (f .kinds) (f .states) (f .starts), from-position (p .written) (p .units) (f .position))
+    fitting-nested f = (from-clauses (p .units) (f .kinds) (f .states) (f .starts), from-past (p .written) (p .units) (f .past))
 
     pub nested-fitting : p .written ≤ n → p .written ≤ l .limit → Nested (p .units) → Written (p .written) (p .units) → Fitting l n p
-    unfolding standing
     nested-fitting room within h w =
-        let c = to-clauses (p .written) (p .units) h in
+        let c = to-clauses (p .units) h in
         record {
           within = room;
           limit = within;
           some = some (p .units) h;
-          five = omega (arith, at-most-four p (c .0));
+          five = omega (arith, at-most-four (p .units) (c .0));
           kinds = c .0;
           states = c .1;
           starts = c .2;
-          position = to-position (p .written) (p .units) w;
+          past = to-past (p .written) (p .units) w;
         }
 
   -- Those around a unit lie in one another too,

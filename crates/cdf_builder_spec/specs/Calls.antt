@@ -7,11 +7,11 @@ use lib.Dec.{ltb, eqb}
 use Rattle.cdf_unit_table.specs.Ids.{known}
 use Rattle.cdf_unit_table.specs.States.{rootKind, nothing}
 use Rattle.cdf_unit_prefix.specs.Layout.{Layout, prefixOf}
-use Rattle.cdf_unit_list.specs.declared.Open.{Open}
 use Rattle.cdf_grammar.specs.Encoding.{bytesOf, unitBytes}
 use Rattle.cdf_builder_write.specs.Patch.{patch}
-use Rattle.cdf_builder_spec.specs.Place.{BuilderPlace, standing, fits}
+use Rattle.cdf_builder_spec.specs.Place.{BuilderPlace, fits}
 use Rattle.cdf_builder_spec.specs.Requests.{Request, bytesFor, completed, refused, grown}
+use Rattle.cdf_builder_spec.specs.declared.Begun.{Begun}
 
 -- A call's number, the new place, and the buffer.
 pub record Reply : Type 0 where
@@ -23,11 +23,11 @@ pub record Reply : Type 0 where
 abbrev pub noBuilderPlace : BuilderPlace
 noBuilderPlace = record { written = 0; units = [] }
 
--- Each of these units has the length from its start to its end.
-unfoldable pub lengths : Layout → List Open → List ℕ → List ℕ
+-- Each of these units has the bytes so far, less its start, as its length.
+unfoldable pub lengths : Layout → ℕ → List Begun → List ℕ → List ℕ
 unfolding patch bytesOf
-lengths l [] s = s
-lengths l (o ∷ os) s = patch (o .start + 2) (bytesOf (l .lengthBytes) (o .end - o .start)) (lengths l os s)
+lengths l written [] s = s
+lengths l written (o ∷ os) s = patch (o .start + 2) (bytesOf (l .lengthBytes) (written - o .start)) (lengths l written os s)
 
 -- 13: past the limit. 12: no room in the buffer of n bytes.
 unfoldable pub room : Layout → ℕ → ℕ → ℕ
@@ -69,8 +69,8 @@ decideOf l n p r =
 
 -- What is then written: the request's bytes where the writing stands, and the length of every unit that is left open.
 unfoldable pub writeOf : Layout → ℕ → BuilderPlace → List ℕ → List ℕ → List ℕ
-unfolding lengths standing patch
-writeOf l at p bytes s = lengths l (standing p) (patch at bytes s)
+unfolding lengths patch
+writeOf l at p bytes s = lengths l (p .written) (p .units) (patch at bytes s)
 
 unfoldable pub callOf : Layout → List ℕ → BuilderPlace → Request → Reply
 unfolding decideOf writeOf bytesFor

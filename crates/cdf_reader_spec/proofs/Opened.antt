@@ -1,8 +1,8 @@
 -- Open units that lie in one another: what their kinds tell of their states and heights, and the tests of the code as clauses.
-use Prim.Native.Nat.{ℕ, _+_, _≤_}
-use mathlib.Core.Path.{_≡_, refl}
-use mathlib.Core.Bool.{true, false≢true}
-use mathlib.Core.List.{List, [], _∷_}
+use Prim.Native.Nat.{ℕ, suc, _+_, _≤_}
+use mathlib.Core.Path.{_≡_, refl, ap}
+use mathlib.Core.Bool.{Bool, true, _&&_, false≢true}
+use mathlib.Core.List.{List, [], _∷_, map}
 use native.Mathlib.Omega.{arith}
 use lib.Dec.{leb, eqb}
 use lib.ListN.{length}
@@ -26,31 +26,56 @@ root-unit state e = unit-state state (λ z. absurd (false≢true (rw z at e)))
 kind-unit : (unit state : ℕ) → admitsKind unit (unitOf state) ≡ true → isState state ≡ true
 kind-unit unit state e = unit-state state (λ z. absurd (false≢true (rw (none-admits unit (unitOf state) z) at e)))
 
--- So each is in one of its states.
-pub kinds-states : (os : List Open) → Kinds os → States os
-unfolding nested every
-kinds-states [] k = refl
-kinds-states (o ∷ []) k = rw (root-unit (o .state) k)
-kinds-states (o ∷ p ∷ os) k =
-    let w = both (admitsKind (unitOf (p .state)) (unitOf (o .state))) _ k in
-    rw (kind-unit (unitOf (p .state)) (o .state) (w .0)) (kinds-states (p ∷ os) (w .1))
+-- What is asked of units in another form is asked of the units themselves.
+pub nested-map : {A B : Type 0} (f : A → B) (root : B → Bool) (inner : B → B → Bool) (os : List A) →
+    nested root inner (map f os) ≡ nested (λ o. root (f o)) (λ p o. inner (f p) (f o)) os
+unfolding nested
+nested-map f root inner [] = refl
+nested-map f root inner (o ∷ []) = refl
+nested-map f root inner (o ∷ p ∷ os) = ap (λ b. inner (f p) (f o) && b) (nested-map f root inner (p ∷ os))
 
--- Each is lower than the one outside it, so that there are few.
-pub kinds-bounded : (os : List Open) → Kinds os → Bounded os
-unfolding nested heightIn
-kinds-bounded [] k = record {}
-kinds-bounded (o ∷ []) k = (omega (arith, height-most (unitOf (o .state))), record {})
-kinds-bounded (o ∷ p ∷ os) k =
-    let w = both (admitsKind (unitOf (p .state)) (unitOf (o .state))) _ k in
-    let rest = kinds-bounded (p ∷ os) (w .1) in
-    (omega (arith, kind-lower (unitOf (p .state)) (unitOf (o .state)) (w .0)), rest)
+-- Open units of any form, if they have a state.
+module _ {A : Type 0} (state : A → ℕ) where
+  abbrev KindsBy : List A → Type 0
+  KindsBy os = nested (λ o. rootKind (unitOf (state o))) (λ p o. admitsKind (unitOf (state p)) (unitOf (state o))) os ≡ true
+
+  -- Each is in one of its states.
+  states-by : (os : List A) → KindsBy os → every (λ o. isState (state o)) os ≡ true
+  unfolding nested every
+  states-by [] k = refl
+  states-by (o ∷ []) k = rw (root-unit (state o) k)
+  states-by (o ∷ p ∷ os) k =
+      let w = both (admitsKind (unitOf (state p)) (unitOf (state o))) _ k in
+      rw (kind-unit (unitOf (state p)) (state o) (w .0)) (states-by (p ∷ os) (w .1))
+
+  -- Each is lower than the one outside it, so that there are few.
+  low-by : (o : A) (os : List A) → KindsBy (o ∷ os) → heightIn (state o) + suc (length os) ≤ 5
+  unfolding nested heightIn
+  low-by o [] k = omega (arith, height-most (unitOf (state o)))
+  low-by o (p ∷ os) k =
+      let w = both (admitsKind (unitOf (state p)) (unitOf (state o))) _ k in
+      omega (arith, kind-lower (unitOf (state p)) (unitOf (state o)) (w .0), low-by p os (w .1))
+
+  pub few-by : (os : List A) → KindsBy os → length os ≤ 4
+  unfolding every
+  few-by [] k = omega arith
+  few-by (o ∷ os) k =
+      let s = both (isState (state o)) _ (states-by (o ∷ os) k) in
+      omega (arith, low-by o os k, state-high (state o) (s .0))
+
+-- The reader's.
+pub kinds-states : (os : List Open) → Kinds os → States os
+kinds-states = states-by (λ o. o .state)
 
 pub at-most-four : (os : List Open) → Kinds os → length os ≤ 4
-unfolding every
-at-most-four [] k = omega arith
-at-most-four (o ∷ os) k =
-    let s = both (isState (o .state)) _ (kinds-states (o ∷ os) k) in
-    omega (arith, kinds-bounded (o ∷ os) k .0, state-high (o .state) (s .0))
+at-most-four = few-by (λ o. o .state)
+
+pub kinds-bounded : (os : List Open) → Kinds os → Bounded os
+unfolding nested
+kinds-bounded [] k = record {}
+kinds-bounded (o ∷ []) k = (low-by (λ o. o .state) o [] k, record {})
+kinds-bounded (o ∷ p ∷ os) k =
+    (low-by (λ o. o .state) o (p ∷ os) k, kinds-bounded (p ∷ os) (both (admitsKind (unitOf (p .state)) (unitOf (o .state))) _ k .1))
 
 -- The tests of the code, unit by unit, are the clauses, taken one after the other.
 module _ (l : Layout) (n : ℕ) where

@@ -21,13 +21,14 @@ pub record ReaderPlace : Type 0 where
 unfoldable pub isEmpty : ReaderPlace → Bool
 isEmpty p = eqb (length (p .units)) 0
 
--- What is asked of the outermost unit, and of each other with the one outside it. Of no unit it does not hold.
-unfoldable pub nested : (Open → Bool) → (Open → Open → Bool) → List Open → Bool
+-- What is asked of the outermost unit, and of each other with the one outside it. Of no unit it does not hold. The reader and the
+-- builder each have open units of their own.
+unfoldable pub nested : {A : Type 0} → (A → Bool) → (A → A → Bool) → List A → Bool
 nested root inner [] = false
 nested root inner (o ∷ []) = root o
 nested root inner (o ∷ p ∷ os) = inner p o && nested root inner (p ∷ os)
 
-unfoldable pub every : (Open → Bool) → List Open → Bool
+unfoldable pub every : {A : Type 0} → (A → Bool) → List A → Bool
 every f [] = true
 every f (o ∷ os) = f o && every f os
 

@@ -46,17 +46,17 @@ returns-4 c =
     states-not (p .written) (p .top) (p .o1) (p .o2) (p .o3) (layoutOf (a .edition)) (a .n) (p .count)
     (sym (states .ensures) ∙ not-true (states .result) (c .if4 .taken))
 
-standing-requires : tie.Need-standing-requires
-standing-requires c κs = search needs
+as-open-requires : tie.Need-as-open-requires
+as-open-requires c κs = search needs
 
-standing-requires-2 : tie.Need-standing-requires-2
-standing-requires-2 c κs = search needs
+as-open-requires-2 : tie.Need-as-open-requires-2
+as-open-requires-2 c κs = search needs
 
-standing-requires-3 : tie.Need-standing-requires-3
-standing-requires-3 c κs = search needs
+as-open-requires-3 : tie.Need-as-open-requires-3
+as-open-requires-3 c κs = search needs
 
-standing-requires-4 : tie.Need-standing-requires-4
-standing-requires-4 c κs = search needs
+as-open-requires-4 : tie.Need-as-open-requires-4
+as-open-requires-4 c κs = search needs
 
 is-chain-requires : tie.Need-is-chain-requires
 is-chain-requires c κs = search needs
@@ -72,10 +72,10 @@ returns-5 c =
     let p = a .p in
     let chain = c .is-chain .ensures in
     rw (
-      outer .before .before .before .standing .ensures,
-      outer .before .before .standing2 .ensures,
-      outer .before .standing3 .ensures,
-      outer .standing4 .ensures,
+      outer .before .before .before .as-open .ensures,
+      outer .before .before .as-open2 .ensures,
+      outer .before .as-open3 .ensures,
+      outer .as-open4 .ensures,
     ) at chain
     ∙ by-chain (p .written) (p .top) (p .o1) (p .o2) (p .o3) (layoutOf (a .edition)) (a .n) (p .count)
     (room .if1 .left)
@@ -94,9 +94,9 @@ is-fit-spec =
     returns-3
     are-buildable-requires
     returns-4
-    standing-requires
-    standing-requires-2
-    standing-requires-3
-    standing-requires-4
+    as-open-requires
+    as-open-requires-2
+    as-open-requires-3
+    as-open-requires-4
     is-chain-requires
     returns-5)
