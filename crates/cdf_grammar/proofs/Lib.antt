@@ -12,12 +12,12 @@ pub mod Parts
 pub mod Numbers
 pub mod Prefixes
 pub mod Built
-pub mod Locality
 pub mod Nesting
 pub mod Forward
 pub mod Written
 pub mod Backward
 pub mod Within
+pub mod Children
 pub mod Proved
 pub mod Completing
 pub mod Person

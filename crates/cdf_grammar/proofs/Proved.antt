@@ -20,6 +20,7 @@ use Rattle.cdf_grammar.proofs.Fits.{Fits}
 use Rattle.cdf_grammar.proofs.Agrees.{fits, conforms, root-agrees}
 use Rattle.cdf_grammar.proofs.Forward.{length-list}
 use Rattle.cdf_grammar.proofs.Within.{lists, built, accepted-ends}
+use Rattle.cdf_grammar.proofs.Children.{children}
 use Rattle.cdf_grammar.proofs.Heights.{depth-most}
 use Rattle.cdf_grammar.proofs.Person.{person-grammatical}
 use Rattle.cdf_grammar.proofs.OneKind.{one-kind}
@@ -98,6 +99,7 @@ of e =
           let t = stream-of l room s b x in
           let u = stream-of l room r c y in
           same-bytes l room s r (t .0) (u .0) (t .1) (u .1) e;
+      children = children l room;
     }
 
 example : Stream (layoutOf First) k2 person

@@ -3,10 +3,11 @@
 use Prim.Native.Nat.{ℕ, _≤_}
 use mathlib.Core.Path.{_≡_}
 use mathlib.Core.Bool.{cond, _||_}
-use mathlib.Core.List.{List, [], _∷_, map}
+use mathlib.Core.List.{List, [], _∷_, map, flatten}
 use mathlib.Core.Logic.{_↔_, _⊎_}
 use lib.Dec.{eqb}
-use Rattle.cdf_unit_table.specs.Ids.{template, temporaryKey, templateKey, entityKey}
+use lib.ListN.{length}
+use Rattle.cdf_unit_table.specs.Ids.{erGroup, template, temporaryKey, templateKey, entityKey, fileGroup}
 use Rattle.cdf_unit_prefix.specs.Layout.{Layout, layoutOf}
 use Rattle.cdf_unit_list.specs.Units.{listing}
 use Rattle.cdf_unit_list.specs.Check.{checkOf}
@@ -16,6 +17,7 @@ use Rattle.cdf_unit_prefix.specs.declared.Edition.the-variants.{First}
 use Rattle.cdf_grammar.specs.Trees.{Forest, none, tree, ids, units, depth}
 use Rattle.cdf_grammar.specs.Published.{Each, Among}
 use Rattle.cdf_grammar.specs.Encoding.{Bytes, Stream, list, Item, itemOf}
+use Rattle.cdf_grammar.specs.Groups.{Children, groupBytes, Holds}
 use Rattle.cdf_grammar.specs.Example.{person}
 
 -- The check accepts these bytes.
@@ -60,6 +62,10 @@ pub record InEdition (e : Edition) : Type 0 where
   -- Two accepted streams whose units say the same are the same bytes.
   pub same : (s r : List ℕ) → Bytes s → Bytes r → Accepted (layoutOf e) s → Accepted (layoutOf e) r →
       itemsOf (layoutOf e) s ≡ itemsOf (layoutOf e) r → s ≡ r
+  -- Bytes of units make a group exactly if there is one or more, a group takes each of them as its first, and all are within the limit.
+  pub children : (group : ℕ) → Among group (erGroup ∷ fileGroup ∷ []) → (units : List (List ℕ)) → Bytes (flatten units) →
+      Holds (layoutOf e) group units
+      ↔ ((units ≡ [] → ⊥) × Children (layoutOf e) group units × (length (groupBytes (layoutOf e) group units) ≤ layoutOf e .limit))
 
 pub record Claims : Type 0 where
   -- All of this holds in each edition.

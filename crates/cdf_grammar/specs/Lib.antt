@@ -2,5 +2,6 @@ pub mod Content
 pub mod Trees
 pub mod Published
 pub mod Encoding
+pub mod Groups
 pub mod Example
 pub mod Claims

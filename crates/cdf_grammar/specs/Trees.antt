@@ -12,6 +12,11 @@ unfoldable pub ids : Forest → List ℕ
 ids none = []
 ids (tree id action text inner rest) = id ∷ ids rest
 
+-- The trees, each by itself.
+unfoldable pub singly : Forest → List Forest
+singly none = []
+singly (tree id action text inner rest) = tree id action text inner none ∷ singly rest
+
 -- How many units there are.
 unfoldable pub units : Forest → ℕ
 units none = 0
