@@ -160,3 +160,25 @@ LOOKUPS = {  # two streams, a template's name, a key, a field's name; and the ou
     "a value that would forge": (FORGED, K2, "PERSON", "#1", "SURNAME",
                                  found("first", 43, "x\\'\\nFound in the first file, first.cdf, from byte 0: \\'y")),
 }
+
+THREE = people(*[with_key(key, name) for key, name in ((1, "Lind"), (2, "Berg"), (3, "Dahl"))])
+PAIR = people(with_key(1, "Lind"), with_key(2, "Berg"), make.unit(9, 1, number(7), end(1), end(2)))
+
+
+def without(stream, *lost):
+    return bytes(byte for at, byte in enumerate(stream) if at not in lost)
+
+
+RESCUED = {name.removesuffix(".cdf"): FILES[name] for name in ("family.cdf", "rescue-person.cdf", "rescue-nothing.cdf", "rescue-short.cdf")} | {
+    "K2": K2,
+    "K2-byte-lost": without(K2, 20),
+    "K2-twice": K2 + b"?" + K2,
+    "byte-lost-in-a-name": without(THREE, 14),
+    "byte-lost-in-the-last-value": without(THREE, 6 + 40),
+    "three-bytes-lost-in-the-last-value": without(THREE, 44, 45, 46),
+    "no-such-person": without(PAIR, 6 + 41 + 10),
+    "byte-lost-at-the-end": THREE[:-1],
+    "another-root": K1,
+    "runs": people(*[with_key(key, "x") + b"?" for key in range(65)]),
+    "a-unit-in-a-value": without(people(person(make.key(1), make.unit(8, 1, make.name("NOTE"), with_key(2, "x")))), 12),
+}

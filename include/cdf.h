@@ -1,8 +1,9 @@
-/* The proved library for Common Data Format streams: the check, why it refuses a stream, the lookup of a value in two, the reader
- * and a run of the reader's calls, and by cdf_build.h the builder and the listing. The numbers that they share are in cdf_numbers.h.
+/* The proved library for Common Data Format streams: the check, why it refuses a stream, the lookup of a value in two, the rescue of a
+ * broken E/R data group, the reader and a run of the reader's calls, and by cdf_build.h the builder and the listing. The numbers that they
+ * share are in cdf_numbers.h.
  *
- * Build target/libcdf.a with ./library, include this file and link the archive. It is for x86-64 Linux, and needs only memset, which
- * every C library has.
+ * Build target/libcdf.a with ./library, include this file and link the archive. It is for x86-64 Linux, and needs only memcpy and memset,
+ * which every C library has.
  *
  * Every call returns a number: CDF_OK, 0, is done, and the others say what is wrong. A call answers for any bytes and any numbers that it
  * is given; that its answer is the one that the format demands is proved. What C must keep, since no proof reaches the caller:
@@ -57,6 +58,30 @@ uint64_t cdf_explain(const uint8_t *stream, size_t length, uint64_t answer[CDF_E
 uint64_t cdf_lookup(const uint8_t *first, size_t first_length, const uint8_t *second, size_t second_length,
                     const uint8_t *template_name, size_t template_length, uint64_t key_id, const uint8_t *key, size_t key_length,
                     const uint8_t *field, size_t field_length, uint64_t answer[CDF_LOOKUP_NUMBERS]);
+
+/* The rescue of a broken E/R data group. 130 numbers are written at each call; those that are not used are zeros, and on a refusal all
+ * are. */
+#define CDF_RESCUE_NUMBERS 130
+#define CDF_RESCUE_LENGTH 0     /* how many bytes of the buffer the group has */
+#define CDF_RESCUE_COUNT 1      /* how many runs of bytes were dropped, 0 to 64 */
+#define CDF_RESCUE_RUNS 2       /* of each of them the first byte and the byte after the last, rising: 64 times two numbers */
+
+/* Behind the six bytes of the root's prefix, of which nothing is read: where a template, a relation or an ordered relation stands whole
+ * and keeps every rule, it is taken over, and what follows it comes next; where none does, a byte is dropped. Dropped bytes that stand
+ * side by side are one run. There may be more bytes than a stream has. The group is written to the front of the buffer, and
+ * the bytes behind it stay: an E/R data group of the units that were kept, in their order, which cdf_check accepts. An accepted E/R data
+ * group comes out unchanged, with no runs. A buffer of 65,535 bytes always has room.
+ *
+ * Refused are, in this order: with CDF_ERR_SHORT fewer than 6 bytes, with CDF_ERR_NOTHING_KEPT bytes of which nothing can be kept, with
+ * CDF_ERR_MANY_RUNS more than 64 runs, with CDF_ERR_TOO_LONG a group that would be longer than 65,535 bytes, with CDF_ERR_NO_ROOM a
+ * buffer that is too short for it. Nothing is then written to the buffer. 0, 3, 12, 13, 16 and 17.
+ *
+ * What it costs: a whole group takes less than two checks of it. Where bytes are dropped, a unit is tried at each of them, and one that
+ * seems to stand there may claim up to 65,535 bytes before a rule breaks. So bytes of the first edition, which are those rescued here,
+ * take at most 10,923 judgements a byte, however many there are: some seconds for a megabyte that was made for it. Where lengths have
+ * four bytes, as in the second edition, no claim is too long, and the slowest bytes known take n * n / 447 judgements in all for n of
+ * them: hours at 16 MB. Set a bound on bytes from strangers. What was measured stands in docs/bench/README.md. */
+uint64_t cdf_rescue(const uint8_t *stream, size_t length, uint8_t *out, size_t out_length, uint64_t answer[CDF_RESCUE_NUMBERS]);
 
 /* The reader keeps nothing between calls. All it knows is in a place, 20 numbers that the caller holds; copy it to come back to it.
  * Fill it by cdf_first. A place with the count 0 is empty, whatever else it holds. What stands in the slots of units that the count does

@@ -36,6 +36,8 @@ uint64_t cdf_version(void);
 #define CDF_ERR_TOO_LONG 13     /* a stream would be longer than 65,535 bytes */
 #define CDF_ERR_BAD_GROUP 14    /* what was to be added is no group that the check accepts */
 #define CDF_ERR_NOT_FOUND 15    /* neither stream has the field that is looked up */
+#define CDF_ERR_NOTHING_KEPT 16 /* nothing in a broken group can be kept */
+#define CDF_ERR_MANY_RUNS 17    /* of a broken group more than 64 runs of bytes would be dropped */
 
 /* The ids of units. */
 #define CDF_ID_STREAM 1             /* EDMM stream: a root */

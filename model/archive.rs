@@ -1,7 +1,7 @@
 //! The functions of the archive, called as C calls them.
 
 use cdf_model::lookup::Asked;
-use cdf_model::numbers::{BuilderNumbers, ExplanationNumbers, FoundNumbers, ReaderNumbers};
+use cdf_model::numbers::{BuilderNumbers, ExplanationNumbers, FoundNumbers, ReaderNumbers, RescueNumbers};
 use cdf_model::reader::Call;
 
 type ReaderCall = unsafe extern "C" fn(*const u8, usize, *mut u64, *mut u64) -> u64;
@@ -39,6 +39,7 @@ extern "C" {
         nfield: usize,
         answer: *mut u64,
     ) -> u64;
+    fn cdf_rescue(stream: *const u8, n: usize, group: *mut u8, ngroup: usize, answer: *mut u64) -> u64;
     fn cdf_build_first(buffer: *mut u8, n: usize, root: u64, place: *mut u64) -> u64;
     fn cdf_build_next(
         buffer: *mut u8,
@@ -159,6 +160,13 @@ pub fn lookup(first: &[u8], second: &[u8], asked: &Asked) -> (u64, FoundNumbers)
             answer,
         )
     });
+    (number, answer)
+}
+
+pub fn rescue(bytes: &[u8], group: &mut [u8]) -> (u64, RescueNumbers) {
+    let (room, group) = (group.len(), pointer_mut(group));
+    let mut answer = [UNWRITTEN; 130];
+    let number = guarded(&mut answer, |answer| unsafe { cdf_rescue(pointer(bytes), bytes.len(), group, room, answer) });
     (number, answer)
 }
 

@@ -1,8 +1,9 @@
 //! Compares the builder: runs from a start, and calls on hand-made places. After each call the number, the place and the
 //! whole buffer are compared.
 
+use crate::functions::Function;
 use crate::readers::{compare_explain, hex};
-use crate::tally::{Function, Tally};
+use crate::tally::Tally;
 use crate::{archive, consistency, keys, places};
 use cdf_model::builder::{self, Place, Request};
 use cdf_model::numbers::{builder_place, of_builder_place, BuilderNumbers};

@@ -11,11 +11,13 @@ use crate::header_names::{action, building, call_name, code, hex, id, number, pa
 use crate::lookup::lookup;
 use crate::lookup_samples::lookups;
 use crate::numbers::{
-    builder_place, explanation, listed, of_builder_place, BuilderNumbers, ExplanationNumbers, FoundNumbers,
-    ReaderNumbers, CODES,
+    builder_place, explanation, listed, of_builder_place, rescued, BuilderNumbers, ExplanationNumbers, FoundNumbers,
+    ReaderNumbers, RescueNumbers, CODES,
 };
 use crate::random::Random;
 use crate::reader::{call, Call, Place, Reply};
+use crate::rescue::rescue;
+use crate::rescue_samples::rescues;
 
 /// The version of the numbers.
 const VERSION: u64 = 1;
@@ -66,6 +68,9 @@ pub fn lines() -> Lines {
         );
         lines.call(&format!("cdf_lookup {}", words.join(" ")), number(found.number), &owed);
     }
+    for (_, bytes, room, _) in rescues() {
+        save(&mut lines, &bytes, room.min(100_000) as usize);
+    }
     for case in build_cases() {
         build(&mut lines, &case);
     }
@@ -80,6 +85,7 @@ fn constants(lines: &mut Lines) {
     let owed = [
         ("EXPLAIN_NUMBERS", count::<ExplanationNumbers>()),
         ("LOOKUP_NUMBERS", count::<FoundNumbers>()),
+        ("RESCUE_NUMBERS", count::<RescueNumbers>()),
         ("PLACE_NUMBERS", count::<ReaderNumbers>()),
         ("ANSWER_NUMBERS", ANSWER.len()),
         ("ENTRY_NUMBERS", ENTRY.len()),
@@ -135,6 +141,18 @@ fn told(lines: &mut Lines, stream: &[u8]) {
          CDF_EXPLAIN_IDS={ids}"
     );
     lines.call("cdf_explain", number(told.number), &owed);
+}
+
+/// A rescue into a buffer of so many bytes.
+fn save(lines: &mut Lines, bytes: &[u8], room: usize) {
+    let saved = rescue(bytes, room as u64);
+    let [length, count, runs @ ..] = rescued(&saved);
+    let mut out = vec![UNWRITTEN; room];
+    out[..saved.group.len()].copy_from_slice(&saved.group);
+    let runs: String = runs.iter().map(|number| format!(",{number}")).collect();
+    let owed = format!(" CDF_RESCUE_LENGTH={length} CDF_RESCUE_COUNT={count} CDF_RESCUE_RUNS={runs}{}", sum(&out));
+    lines.given(&format!("stream {}", hex(bytes)));
+    lines.call(&format!("cdf_rescue {room}"), number(saved.number), &owed);
 }
 
 /// The listing with so much room, as the line says it.

@@ -5,7 +5,7 @@ use crate::numbers;
 use crate::reader::{self, Call, Reply};
 use crate::rules::{Had, Unit};
 
-const NUMBERS: [&str; 16] = [
+const NUMBERS: [&str; 18] = [
     "CDF_OK",
     "CDF_END",
     "CDF_ERR_UNFIT",
@@ -22,6 +22,8 @@ const NUMBERS: [&str; 16] = [
     "CDF_ERR_TOO_LONG",
     "CDF_ERR_BAD_GROUP",
     "CDF_ERR_NOT_FOUND",
+    "CDF_ERR_NOTHING_KEPT",
+    "CDF_ERR_MANY_RUNS",
 ];
 
 pub fn id(id: u64) -> String {

@@ -1,5 +1,5 @@
-//! A second implementation of document 01, and of requests a) to d) of 02, in plain Rust, written from the documents and not
-//! from the proved code.
+//! A second implementation of document 01, and of requests a) to d) and f) of 02, in plain Rust, written from the documents
+//! and not from the proved code.
 
 pub mod build_cases;
 mod build_places;
@@ -17,6 +17,8 @@ pub mod numbers;
 pub mod plain;
 pub mod random;
 pub mod reader;
+pub mod rescue;
+pub mod rescue_samples;
 pub mod rules;
 pub mod samples;
 pub mod streams;

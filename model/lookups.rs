@@ -1,9 +1,10 @@
 //! Compares lookups: pairs of streams with few names and keys, and what is asked of them, mostly taken from them.
 
+use crate::functions::Function;
 use crate::keyed::{keyed, Keyed};
 use crate::looked_up::{broken, kinds};
 use crate::readers::hex;
-use crate::tally::{Function, Tally};
+use crate::tally::Tally;
 use crate::{archive, safe};
 use cdf_model::lookup::{lookup, Asked};
 use cdf_model::numbers;

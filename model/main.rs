@@ -1,10 +1,12 @@
-//! Compares an archive of the library, and the Rust crate over it, with the model on random streams, calls, places, requests and lookups.
+//! Compares an archive of the library, and the Rust crate over it, with the model on random streams, calls, places, requests, lookups and
+//! rescues.
 //!   diff SECONDS SEED   for so long
 //!   diff long SEED      until the figures of `LONG` are reached, with a progress line
 
 mod archive;
 mod builders;
 mod consistency;
+mod functions;
 mod keyed;
 mod keys;
 mod looked_up;
@@ -12,6 +14,8 @@ mod lookups;
 mod places;
 mod pointed;
 mod readers;
+mod rescued;
+mod rescues;
 mod safe;
 mod tally;
 
@@ -21,6 +25,8 @@ use cdf_model::explain::explain;
 use cdf_model::lookup::lookup;
 use cdf_model::lookup_samples::lookups;
 use cdf_model::random::Random;
+use cdf_model::rescue::rescue;
+use cdf_model::rescue_samples::rescues;
 use cdf_model::rules::Refusal;
 use cdf_model::samples::{samples, KEYS, POINTED, TOLD};
 use cdf_model::streams::{damage_bytes, damage_tree, filled, grow, mend_root, noise, redirected, Tree};
@@ -95,6 +101,7 @@ fn round(tally: &mut Tally) {
     readers::compare(tally, &stream, tree.as_ref(), random);
     builders::compare(tally, random);
     lookups::compare(tally, random);
+    rescues::compare(tally, random);
     safe::compare(tally, &stream);
     tally.round += 1;
 }
@@ -120,6 +127,11 @@ fn fixed(tally: &mut Tally) {
     for (label, [first, second], asked, owed) in lookups() {
         assert_eq!(lookup(&first, &second, &asked), owed, "{label}");
         lookups::compare_lookup(tally, &first, &second, &asked);
+    }
+    for (label, bytes, room, owed) in rescues() {
+        assert_eq!(rescue(&bytes, room), owed, "{label}");
+        // A room that no buffer has is as good as one for all bytes.
+        rescues::compare_rescue(tally, &bytes, room.min(100_000));
     }
     for (_, bytes) in &cases {
         readers::compare_check(tally, bytes);

@@ -6,6 +6,9 @@
 //!   model lookup FIRST SECOND TEMPLATE KEY_ID KEY FIELD
 //!                      which value counts in two files, in numbers: number, offset, which file, start and length; names
 //!                      with their count byte and keys are written as pairs of hexadecimal digits
+//!   model rescue FILE ROOM
+//!                      what can be rescued, in numbers: number, the group's length, how many runs, and first byte and byte
+//!                      after the last of each
 //!   model inputs       the stored cases of the check, as cdf_check_cases reads them
 //!   model answers      the check's answer to each
 //!   model build-inputs the stored cases of the builder, as cdf_builder_cases reads them
@@ -19,6 +22,7 @@ use cdf_model::build_cases::build_cases;
 use cdf_model::build_run::BuildCase;
 use cdf_model::explain::{explain, Explanation};
 use cdf_model::lookup::{lookup, Asked, Found};
+use cdf_model::rescue::{rescue, Rescued};
 use cdf_model::{cases, check, header, samples};
 use std::fs::File;
 use std::io::{self, Read, Write};
@@ -30,13 +34,17 @@ fn answer(stream: &[u8]) -> String {
     }
 }
 
+fn written(numbers: &[u64]) -> String {
+    numbers.iter().map(u64::to_string).collect::<Vec<_>>().join(" ")
+}
+
 fn told(stream: &[u8]) -> String {
     let Explanation { number, offset, open, ids, .. } = explain(stream);
     let mut numbers = vec![number, offset, open.len() as u64];
     numbers.extend(open.iter().flat_map(|unit| [unit.id, unit.start]));
     numbers.push(ids.len() as u64);
     numbers.extend(ids);
-    numbers.iter().map(u64::to_string).collect::<Vec<_>>().join(" ")
+    written(&numbers)
 }
 
 /// Bytes that are written as pairs of hexadecimal digits.
@@ -52,6 +60,13 @@ fn asked(template: &str, key_id: &str, key: &str, field: &str) -> Option<Asked> 
 fn found(first: &[u8], second: &[u8], asked: &Asked) -> String {
     let Found { number, offset, which, part: (start, length) } = lookup(first, second, asked);
     format!("{number} {offset} {which} {start} {length}")
+}
+
+fn rescued(bytes: &[u8], room: u64) -> String {
+    let Rescued { number, group, runs } = rescue(bytes, room);
+    let mut numbers = vec![number, group.len() as u64, runs.len() as u64];
+    numbers.extend(runs.iter().flat_map(|run| [run.0, run.1]));
+    written(&numbers)
 }
 
 /// The first 65,536 bytes: one more than a stream may have.
@@ -75,6 +90,11 @@ fn main() -> io::Result<()> {
             Some(asked) => found(&read(first)?, &read(second)?, &asked) + "\n",
             None => usage(),
         },
+        // All bytes: there may be more than a stream has.
+        ["rescue", path, room] => match room.parse() {
+            Ok(room) => rescued(&std::fs::read(path)?, room) + "\n",
+            Err(_) => usage(),
+        },
         ["inputs"] => lines(|bytes| ":".to_string() + &cases::written(bytes)),
         ["answers"] => lines(|bytes| " ".to_string() + &answer(bytes)),
         ["build-inputs"] => build_cases().iter().map(BuildCase::input).collect(),
@@ -88,6 +108,7 @@ fn main() -> io::Result<()> {
 
 fn usage() -> ! {
     eprintln!("usage: model check FILE | explain FILE | list FILE | lookup FIRST SECOND TEMPLATE KEY_ID KEY FIELD");
+    eprintln!("       model rescue FILE ROOM");
     eprintln!("       model inputs | answers | build-inputs | build-answers | header-calls | header-answers");
     std::process::exit(2);
 }

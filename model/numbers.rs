@@ -1,16 +1,18 @@
-//! Places, answers, explanations, lookups and logs as the numbers that cross the C boundary.
+//! Places, answers, explanations, lookups, rescues and logs as the numbers that cross the C boundary.
 
 use crate::builder;
 use crate::check::listing;
 use crate::explain::Explanation;
 use crate::lookup::Found;
 use crate::reader::{self, call, Call, Open, Place, Reply};
+use crate::rescue::Rescued;
 use crate::rules::{Had, Unit};
 
 pub type ReaderNumbers = [u64; 20];
 pub type BuilderNumbers = [u64; 10];
 pub type ExplanationNumbers = [u64; 25];
 pub type FoundNumbers = [u64; 4];
+pub type RescueNumbers = [u64; 130];
 
 /// The states, from 1 on: an id, and what such a unit has had.
 const STATES: [(u64, Had); 30] = [
@@ -150,6 +152,17 @@ pub fn explanation(told: &Explanation) -> ExplanationNumbers {
 /// Offset; which stream; the part's start and length.
 pub fn found(found: &Found) -> FoundNumbers {
     [found.offset, found.which, found.part.0, found.part.1]
+}
+
+/// The group's length; how many runs, and first byte and byte after the last of 64. Entries that are not used are 0.
+pub fn rescued(rescued: &Rescued) -> RescueNumbers {
+    let mut numbers = [0; 130];
+    numbers[0] = rescued.group.len() as u64;
+    numbers[1] = rescued.runs.len() as u64;
+    for (run, entry) in rescued.runs.iter().zip(numbers[2..].chunks_exact_mut(2)) {
+        entry.copy_from_slice(&[run.0, run.1]);
+    }
+    numbers
 }
 
 /// The calls that a list of codes may name, from code 1 on.

@@ -1,7 +1,8 @@
 //! Compares check, explanation, listing and reader: every call with the model's answer and place, whole runs, and hand-made
 //! places.
 
-use crate::tally::{Function, Tally};
+use crate::functions::Function;
+use crate::tally::Tally;
 use crate::{archive, consistency, keys, places, pointed};
 use cdf_model::check::{check, listing};
 use cdf_model::explain::explain;

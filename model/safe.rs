@@ -9,6 +9,7 @@ use cdf_model::explain::explain;
 use cdf_model::lookup::{lookup, Asked};
 use cdf_model::random::Random;
 use cdf_model::reader::{self, Call, Place};
+use cdf_model::rescue::Rescued;
 use cdf_model::rules::Unit;
 use cdf_model::streams::{damage_data, grow, request};
 
@@ -54,6 +55,20 @@ pub fn compare(tally: &mut Tally, stream: &[u8]) {
     read(tally, stream, random);
     build(tally, random);
     tally.count("streams through the Rust crate");
+}
+
+/// The rescue of the same bytes into the same room.
+pub fn compare_rescue(tally: &mut Tally, bytes: &[u8], room: u64, owed: &Rescued) {
+    let mut out = vec![0; room as usize];
+    let given = || format!("room {room}, {}", hex(bytes));
+    let said = match cdf::rescue(bytes, &mut out) {
+        Ok(cdf::Rescued { group, dropped }) => {
+            let runs = dropped.iter().map(|run| (run.start as u64, run.end as u64)).collect();
+            Rescued { number: 0, group: group.to_vec(), runs }
+        }
+        Err(refusal) => Rescued { number: refusal.number, ..Rescued::default() },
+    };
+    same(tally, "cdf::rescue", &given, &said, owed);
 }
 
 /// A run of the iterator, with calls in between.

@@ -1,66 +1,14 @@
 //! What was compared, how often, and with which numbers; and the end of a run at the first difference.
 
+use crate::functions::{Function, BUILDER, CAN_GIVE, READER};
 use crate::keys::TOO_MANY;
 use crate::looked_up::LOOKED_UP;
 use crate::pointed::{Byte, BYTES};
+use crate::rescued::RESCUED;
 use cdf_model::explain::Explanation;
 use cdf_model::rules::Had;
 use cdf_model::{builder, reader};
 use std::collections::BTreeMap;
-
-/// The functions of the archive, in the order of `CAN_GIVE`.
-#[derive(Clone, Copy, PartialEq)]
-pub enum Function {
-    Check,
-    First,
-    Next,
-    Skip,
-    GetStream,
-    Previous,
-    AbnormalEnd,
-    Replay,
-    Listing,
-    Explain,
-    Lookup,
-    BuildFirst,
-    BuildNext,
-    AddStream,
-    Finish,
-}
-
-impl From<reader::Call> for Function {
-    fn from(call: reader::Call) -> Function {
-        match call {
-            reader::Call::First => Function::First,
-            reader::Call::Next => Function::Next,
-            reader::Call::Skip => Function::Skip,
-            reader::Call::GetStream => Function::GetStream,
-            reader::Call::Previous => Function::Previous,
-            reader::Call::AbnormalEnd => Function::AbnormalEnd,
-        }
-    }
-}
-
-/// The numbers that each function can give.
-const CAN_GIVE: [(&str, &[usize]); 15] = [
-    ("cdf_check", &[0, 3, 4, 5, 6, 7, 8, 9, 10]),
-    ("cdf_first", &[0, 3, 4, 5, 6, 7, 8]),
-    ("cdf_next", &[0, 1, 2, 3, 4, 5, 6, 7, 8, 9, 10, 11]),
-    ("cdf_skip", &[0, 2, 11]),
-    ("cdf_get_stream", &[0, 2, 11]),
-    ("cdf_previous", &[0, 2, 11]),
-    ("cdf_abnormal_end", &[0]),
-    ("cdf_replay", &[0, 12]),
-    ("cdf_listing", &[0, 12]),
-    ("cdf_explain", &[0, 3, 4, 5, 6, 7, 8, 9, 10]),
-    ("cdf_lookup", &[0, 3, 4, 5, 6, 7, 8, 9, 10, 15]),
-    ("cdf_build_first", &[0, 6, 7, 12]),
-    ("cdf_build_next", &[0, 2, 6, 7, 8, 9, 10, 12, 13]),
-    ("cdf_build_add_stream", &[0, 2, 7, 10, 12, 13, 14]),
-    ("cdf_build_finish", &[0, 2, 10]),
-];
-const READER: std::ops::Range<usize> = 1..7;
-const BUILDER: std::ops::Range<usize> = 11..15;
 
 /// The clauses of the reader's rule, by their place in it, that need not be missed alone: a place with no open unit gets
 /// 11, one with more than four has units of no kind, and a number that is no state tells no kind either.
@@ -99,7 +47,7 @@ const TEMPORARY: [&str; 4] = [
 pub struct Tally {
     pub seed: u64,
     pub round: u64,
-    met: [[u64; 16]; CAN_GIVE.len()],
+    met: [[u64; 18]; CAN_GIVE.len()],
     kinds: BTreeMap<&'static str, u64>,
     /// How many hand-made places missed one clause alone.
     reader_missed: [u64; reader::CLAUSES.len()],
@@ -110,6 +58,7 @@ pub struct Tally {
     too_many: [[u64; TOO_MANY.len()]; CAN_GIVE.len()],
     temporary: [u64; TEMPORARY.len()],
     looked_up: [u64; LOOKED_UP.len()],
+    rescued: [u64; RESCUED.len()],
 }
 
 impl Tally {
@@ -117,7 +66,7 @@ impl Tally {
         Tally {
             seed,
             round: 0,
-            met: [[0; 16]; CAN_GIVE.len()],
+            met: [[0; 18]; CAN_GIVE.len()],
             kinds: BTreeMap::new(),
             reader_missed: [0; reader::CLAUSES.len()],
             builder_missed: [0; builder::CLAUSES.len()],
@@ -126,6 +75,7 @@ impl Tally {
             too_many: [[0; TOO_MANY.len()]; CAN_GIVE.len()],
             temporary: [0; TEMPORARY.len()],
             looked_up: [0; LOOKED_UP.len()],
+            rescued: [0; RESCUED.len()],
         }
     }
 
@@ -203,10 +153,12 @@ impl Tally {
 
     /// A lookup that was all these of `LOOKED_UP`.
     pub fn looked_up(&mut self, kinds: &[&str]) {
-        for kind in kinds {
-            let which = LOOKED_UP.iter().position(|label| label == kind);
-            self.looked_up[which.expect(kind)] += 1;
-        }
+        count_each(&LOOKED_UP, &mut self.looked_up, kinds);
+    }
+
+    /// A rescue that was all these of `RESCUED`.
+    pub fn rescued(&mut self, kinds: &[&str]) {
+        count_each(&RESCUED, &mut self.rescued, kinds);
     }
 
     fn calls(&self, of: std::ops::Range<usize>) -> u64 {
@@ -230,7 +182,7 @@ impl Tally {
 
     /// Prints the figures. False if a number was not met that the function can give, or met that it cannot, or if a clause
     /// was never missed alone, a kind of refusal not explained, a kind of byte not named, a kind of key not refused, or a
-    /// kind of lookup not made.
+    /// kind of lookup or of rescue not made.
     pub fn report(&self) -> bool {
         let mut good = true;
         println!("compared:");
@@ -271,7 +223,16 @@ impl Tally {
         }
         good &= each_met("hand-made places that fit, and their innermost unit", &TEMPORARY, &self.temporary, &[]);
         good &= each_met("lookups", &LOOKED_UP, &self.looked_up, &[]);
+        good &= each_met("rescues", &RESCUED, &self.rescued, &[]);
         good
+    }
+}
+
+/// Counts these of the labels.
+fn count_each(labels: &[&str], met: &mut [u64], these: &[&str]) {
+    for this in these {
+        let which = labels.iter().position(|label| label == this);
+        met[which.expect(this)] += 1;
     }
 }
 

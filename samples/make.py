@@ -88,6 +88,7 @@ def files():
     married = family.replace(field("SURNAME", "Öberg"), field("SURNAME", "Öberg-Lind"), 1)
     # As streams once could be: a stored person has kept the temporary key that he had before.
     mixed = [([4, k], *names) if k == "P-1874" else (k, *names) for k, *names in PEOPLE]
+    alone = unit(ER_GROUP, NONE, person(*PEOPLE[0]))
     return {
         "family.cdf": family,
         "family-call.cdf": family_call,
@@ -97,6 +98,9 @@ def files():
         "inner-length-only.cdf": married,
         "second-group.cdf": unit(STREAM, NONE, call(), group(), group()),
         "mixed-keys.cdf": group(people=mixed),
+        "rescue-person.cdf": family[:100] + family[103:],  # three bytes of the second person did not arrive
+        "rescue-nothing.cdf": alone[:40] + alone[41:],  # one byte of the only person did not arrive
+        "rescue-short.cdf": family[:5],
     }
 
 

@@ -11,6 +11,9 @@ pub type Answer = [u64; 8];
 pub type Explanation = [u64; 25];
 /// Offset; which stream has the value, 1 or 2, or 0; start and length of the value.
 pub type Found = [u64; 4];
+/// The group's length; how many runs of bytes were dropped; first byte and byte after the last of up to 64. Zeros beyond, and
+/// all zeros on a refusal.
+pub type Rescued = [u64; 130];
 /// Bytes written; how many units are open; state and start of each.
 pub type BuildPlace = [u64; 10];
 
@@ -37,11 +40,13 @@ pub trait Archive {
     fn build_finish(buffer: &[u8], place: &BuildPlace, answer: &mut [u64; 1]) -> u64;
     fn listing(stream: &[u8], text: &mut [u8], answer: &mut [u64; 1]) -> u64;
     fn lookup(first: &[u8], second: &[u8], question: &Question, answer: &mut Found) -> u64;
+    fn rescue(bytes: &[u8], group: &mut [u8], answer: &mut Rescued) -> u64;
 }
 
 macro_rules! archive {
     ($archive:ident, $name:literal, $check:ident, $explain:ident, $first:ident, $next:ident, $walk:ident,
-     $replay:ident, $build_first:ident, $build_next:ident, $build_finish:ident, $listing:ident, $lookup:ident) => {
+     $replay:ident, $build_first:ident, $build_next:ident, $build_finish:ident, $listing:ident, $lookup:ident,
+     $rescue:ident) => {
         extern "C" {
             fn $check(stream: *const u8, length: usize, answer: &mut [u64; 1]) -> u64;
             fn $explain(stream: *const u8, length: usize, answer: &mut Explanation) -> u64;
@@ -88,6 +93,13 @@ macro_rules! archive {
                 field: *const u8,
                 field_length: usize,
                 answer: &mut Found,
+            ) -> u64;
+            fn $rescue(
+                bytes: *const u8,
+                length: usize,
+                group: *mut u8,
+                group_length: usize,
+                answer: &mut Rescued,
             ) -> u64;
         }
 
@@ -161,6 +173,10 @@ macro_rules! archive {
                     )
                 }
             }
+            #[inline(always)]
+            fn rescue(bytes: &[u8], group: &mut [u8], answer: &mut Rescued) -> u64 {
+                unsafe { $rescue(bytes.as_ptr(), bytes.len(), group.as_mut_ptr(), group.len(), answer) }
+            }
         }
     };
 }
@@ -178,7 +194,8 @@ archive!(
     cdf_build_next,
     cdf_build_finish,
     cdf_listing,
-    cdf_lookup
+    cdf_lookup,
+    cdf_rescue
 );
 #[cfg(before)]
 archive!(
@@ -194,7 +211,8 @@ archive!(
     before_cdf_build_next,
     before_cdf_build_finish,
     before_cdf_listing,
-    before_cdf_lookup
+    before_cdf_lookup,
+    before_cdf_rescue
 );
 
 /// The proved loop of FIRST and NEXTs, folded: it is no part of the joined archive.

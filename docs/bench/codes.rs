@@ -1,77 +1,11 @@
 //! The codes that are timed, by part: the first two of a part are plain Rust, inlined and out of line.
 
-use crate::archive::{proved_walk, Archive, Explanation, Found, Now, Question};
+use crate::archive::{proved_walk, Archive, Explanation, Found, Now, Rescued};
+use crate::cases::{Case, Second};
 use crate::plain::{check, explain, replay, walk, INLINED, OUT_OF_LINE};
 use crate::plain_lookup::lookup;
+use crate::plain_rescue::rescue;
 use crate::plain_write::{listing, Builder};
-use crate::rules::{opens, Unit};
-
-/// What a NEXT of the builder is asked to write; the data stand in the stream from `data` to `end`.
-pub struct Request {
-    pub id: u8,
-    pub action: u8,
-    data: usize,
-    end: usize,
-}
-
-/// A stream with one value more than that of its case, and the units of that value: its template, the template's first key
-/// and the field.
-pub struct Second {
-    pub stream: Vec<u8>,
-    pub units: [Unit; 3],
-}
-
-impl Second {
-    #[inline(always)]
-    pub fn question(&self) -> Question<'_> {
-        question(&self.stream, &self.units)
-    }
-}
-
-/// What asks for the value of a field, by the units of a stream that `Second` says.
-#[inline(always)]
-pub fn question<'a>(stream: &'a [u8], [template, key, field]: &[Unit; 3]) -> Question<'a> {
-    Question {
-        template: &stream[template.start + 6..template.own],
-        key_id: key.id as u64,
-        key: &stream[key.start + 6..key.end],
-        field: &stream[field.start + 6..field.own],
-    }
-}
-
-/// A stream, a refused copy, the codes that replay the stream to its end, the requests that build it, and of an E/R group
-/// to be timed the second stream of its lookup.
-pub struct Case {
-    pub stream: Vec<u8>,
-    pub refused: Vec<u8>,
-    pub calls: Vec<u8>,
-    pub requests: Vec<Request>,
-    pub second: Option<Second>,
-}
-
-impl Case {
-    pub fn new(stream: Vec<u8>, units: &[Unit]) -> Case {
-        let mut calls = vec![2; units.len() + 1];
-        calls[0] = 1;
-        // No unit admits a nested EDMM stream: the fault is the last unit's, so all the others are read.
-        let mut refused = stream.clone();
-        if let Some(last) = units.last() {
-            refused[last.start + 5] = 1;
-        }
-        let requests = units.iter().map(|unit| Request {
-            id: unit.id,
-            action: unit.action,
-            data: unit.start + 6,
-            end: if opens(unit.id) { unit.own } else { unit.end },
-        });
-        Case { refused, calls, requests: requests.collect(), stream, second: None }
-    }
-
-    #[inline(always)]
-    pub fn data(&self, request: &Request) -> &[u8] {
-        &self.stream[request.data..request.end]
-    }
-}
 
 /// As many bytes as any listing takes.
 pub const LISTING_ROOM: usize = 207_527;
@@ -80,6 +14,7 @@ pub const LISTING_ROOM: usize = 207_527;
 pub struct Scratch {
     pub explanation: Explanation,
     pub found: Found,
+    pub rescued: Rescued,
     pub log: Vec<u64>,
     pub buffer: Vec<u8>,
     pub text: Vec<u8>,
@@ -91,6 +26,7 @@ impl Scratch {
         Scratch {
             explanation: [0; 25],
             found: [0; 4],
+            rescued: [0; 130],
             log: vec![0; 9 * 11_000],
             buffer: vec![0; 65_535],
             text: vec![0; LISTING_ROOM],
@@ -220,8 +156,30 @@ fn both_checks<A: Archive>(case: &Case, _: &mut Scratch) -> u64 {
     A::check(&case.stream, &mut one) + A::check(&second(case).stream, &mut other) + one[0] + other[0]
 }
 
-fn version<A: Archive>(parts: &mut [Part; 7]) {
-    let runs: [(&str, fn(&Case, &mut Scratch) -> u64); 7] = [
+fn plain_rescue<const CALLS: bool>(case: &Case, scratch: &mut Scratch) -> u64 {
+    rescue::<CALLS>(&case.stream, &mut scratch.buffer, &mut scratch.rescued)
+}
+
+fn proved_rescue<A: Archive>(case: &Case, scratch: &mut Scratch) -> u64 {
+    A::rescue(&case.stream, &mut scratch.buffer, &mut scratch.rescued)
+}
+
+/// The copy of a case that has lost bytes.
+#[inline(always)]
+fn lost(case: &Case) -> &[u8] {
+    case.lost.as_ref().expect("bytes are lost of an E/R group")
+}
+
+fn plain_rescue_lost<const CALLS: bool>(case: &Case, scratch: &mut Scratch) -> u64 {
+    rescue::<CALLS>(lost(case), &mut scratch.buffer, &mut scratch.rescued)
+}
+
+fn proved_rescue_lost<A: Archive>(case: &Case, scratch: &mut Scratch) -> u64 {
+    A::rescue(lost(case), &mut scratch.buffer, &mut scratch.rescued)
+}
+
+fn version<A: Archive>(parts: &mut [Part; 9]) {
+    let runs: [(&str, fn(&Case, &mut Scratch) -> u64); 9] = [
         ("cdf_check", proved_check::<A>),
         ("cdf_explain", proved_explain::<A>),
         ("cdf_first, cdf_next, from C", |case, _| A::walk(&case.stream)),
@@ -229,12 +187,18 @@ fn version<A: Archive>(parts: &mut [Part; 7]) {
         ("cdf_build_*", proved_build::<A>),
         ("cdf_listing", proved_listing::<A>),
         ("cdf_lookup", proved_lookup::<A>),
+        ("cdf_rescue", proved_rescue::<A>),
+        ("cdf_rescue, bytes lost", proved_rescue_lost::<A>),
     ];
     for (part, (name, run)) in parts.iter_mut().zip(runs) {
         part.codes.push(Code { name: format!("{}{name}", A::NAME), run });
     }
-    let checks: [(usize, &str, fn(&Case, &mut Scratch) -> u64); 2] =
-        [(1, "cdf_check, refused", refused_check::<A>), (6, "cdf_check, both", both_checks::<A>)];
+    let checks: [(usize, &str, fn(&Case, &mut Scratch) -> u64); 4] = [
+        (1, "cdf_check, refused", refused_check::<A>),
+        (6, "cdf_check, both", both_checks::<A>),
+        (7, "cdf_check", proved_check::<A>),
+        (8, "cdf_check, no byte lost", proved_check::<A>),
+    ];
     for (at, name, run) in checks {
         let codes = &mut parts[at].codes;
         codes.push(Code { name: format!("{}{name}", A::NAME), run });
@@ -244,7 +208,7 @@ fn version<A: Archive>(parts: &mut [Part; 7]) {
     parts[5].codes.push(Code { name: format!("{}cdf_listing, no room", A::NAME), run: counted_listing::<A> });
 }
 
-pub fn parts() -> [Part; 7] {
+pub fn parts() -> [Part; 9] {
     fn part(
         name: &'static str,
         inlined: fn(&Case, &mut Scratch) -> u64,
@@ -262,8 +226,14 @@ pub fn parts() -> [Part; 7] {
         part("builder", plain_build::<INLINED>, plain_build::<OUT_OF_LINE>),
         part("listing", plain_listing::<INLINED>, plain_listing::<OUT_OF_LINE>),
         part("lookup", plain_lookup::<INLINED>, plain_lookup::<OUT_OF_LINE>),
+        part("rescue", plain_rescue::<INLINED>, plain_rescue::<OUT_OF_LINE>),
+        part("rescue, bytes lost", plain_rescue_lost::<INLINED>, plain_rescue_lost::<OUT_OF_LINE>),
     ];
+    // Both are of one part.
+    parts[8].name = parts[7].name;
     parts[6].bytes = |case| case.second.as_ref().map_or(0, |second| case.stream.len() + second.stream.len());
+    parts[7].bytes = |case| case.lost.as_ref().map_or(0, |_| case.stream.len());
+    parts[8].bytes = |case| case.lost.as_ref().map_or(0, Vec::len);
     parts[2].codes.push(Code { name: "cdf_walk".to_string(), run: |case, _| proved_walk(&case.stream) });
     version::<Now>(&mut parts);
     #[cfg(before)]

@@ -1,12 +1,13 @@
 //! That the proved code gives plain Rust's answers: nothing is timed before.
 
 use crate::archive::{proved_walk, Archive, Explanation, Now, LAST};
-use crate::codes::{plain_build, proved_build, Case, Scratch, Second, LISTING_ROOM};
+use crate::cases::{Case, Second};
+use crate::codes::{plain_build, proved_build, Scratch, LISTING_ROOM};
 use crate::plain::{check, explain, fold_stop, fold_unit, replay, walk, Reader, INLINED, OUT_OF_LINE};
 use crate::plain_write::{listing, Builder};
 use crate::random::Random;
 use crate::rules::{Stop, Unit};
-use crate::streams::{damaged, one_field_more, samples, Sample, Set};
+use crate::streams::{damaged, lost, one_field_more, samples, Sample, Set};
 
 /// What plain Rust says of some bytes: the units handed out, what comes after the last, and why it is a refusal.
 pub struct Expected {
@@ -55,6 +56,7 @@ pub fn case(stream: Vec<u8>) -> Case {
     let mut case = Case::new(stream, &units);
     if units[0].id == 4 {
         case.second = Some(second(&case.stream, &units));
+        case.lost = Some(lost(&case.stream, 8, &mut Random::new(case.stream.len() as u64)));
     }
     let refused = read(&case.refused);
     let last = units.last().expect("a stream has a root").start;

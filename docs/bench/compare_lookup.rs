@@ -1,7 +1,7 @@
 //! That the proved lookup gives plain Rust's answers.
 
 use crate::archive::{Archive, Found, Now, Question};
-use crate::codes::question;
+use crate::cases::question;
 use crate::compare::{list, read, Expected};
 use crate::plain::{INLINED, OUT_OF_LINE};
 use crate::plain_lookup::lookup;

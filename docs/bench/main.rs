@@ -2,15 +2,19 @@
 //! Arguments name the parts to be timed; without any, all are, and with `answers` none.
 
 mod archive;
+mod cases;
 mod codes;
 mod compare;
 mod compare_lookup;
+mod compare_rescue;
 mod plain;
 mod plain_lookup;
+mod plain_rescue;
 mod plain_write;
 mod random;
 mod rounds;
 mod rules;
+mod slow;
 mod streams;
 mod timing;
 
@@ -23,8 +27,14 @@ fn main() {
     let sets = sets();
     compare::assert_equal(&sets);
     compare_lookup::assert_equal(&sets);
+    compare_rescue::assert_equal(&sets);
     if named.iter().any(|name| name == "answers") {
         return;
     }
-    timing::tables(&parts, &sets, &SIZES, rounds::wanted());
+    if !parts.is_empty() {
+        timing::tables(&parts, &sets, &SIZES, rounds::wanted());
+    }
+    if named.is_empty() || named.iter().any(|name| name == "slow") {
+        slow::tables();
+    }
 }

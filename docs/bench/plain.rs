@@ -67,6 +67,16 @@ fn inside<const CALLS: bool>(stream: &[u8], mut open: Open, mut at: usize) -> Re
     }
 }
 
+/// Where the unit at `start` ends, if the rules accept it in an E/R group around all the bytes.
+#[inline(always)]
+pub fn in_group<const CALLS: bool>(bytes: &[u8], start: usize) -> Option<usize> {
+    let group = &mut Open { progress: Progress::new(4), start: 0, end: bytes.len() };
+    let unit = if CALLS { nested_out_of_line(bytes, start, group) } else { nested(bytes, start, group) }.ok()?;
+    // All that a group admits admit others.
+    inside::<CALLS>(bytes, Open::new(&unit), unit.own).ok()?;
+    Some(unit.end)
+}
+
 /// FIRST, then NEXT until one of them gives a number other than 0.
 pub struct Reader<'a> {
     stream: &'a [u8],

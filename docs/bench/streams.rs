@@ -1,6 +1,6 @@
 //! What the codes are compared on: streams of four kinds and three sizes, damaged copies of them, and samples K1 to K12.
 
-use crate::codes::Case;
+use crate::cases::Case;
 use crate::compare::case;
 use crate::random::Random;
 use crate::rules::{opens, Unit};
@@ -144,6 +144,15 @@ pub fn damaged(stream: &[u8], units: &[Unit], random: &mut Random) -> Vec<u8> {
                 return front;
             }
         }
+    }
+    bytes
+}
+
+/// A copy without so many of its bytes, each at a random place.
+pub fn lost(stream: &[u8], count: usize, random: &mut Random) -> Vec<u8> {
+    let mut bytes = stream.to_vec();
+    for _ in 0..count {
+        bytes.remove(random.below(bytes.len()));
     }
     bytes
 }

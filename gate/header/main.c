@@ -12,6 +12,7 @@ GUARDED(answer, CDF_ANSWER_NUMBERS);
 GUARDED(one, 1);
 GUARDED(explanation, CDF_EXPLAIN_NUMBERS);
 GUARDED(found, CDF_LOOKUP_NUMBERS);
+GUARDED(rescued, CDF_RESCUE_NUMBERS);
 GUARDED(building, CDF_BUILD_PLACE_NUMBERS);
 #define SET(name) (name.before = name.after = GUARD)
 #define KEPT(name) (name.before == GUARD && name.after == GUARD)
@@ -59,7 +60,7 @@ static void tell_sum(const uint8_t *from, size_t length) {
 static int done;
 
 static void returned(const char *function, uint64_t is) {
-    if (!(KEPT(place) && KEPT(answer) && KEPT(one) && KEPT(explanation) && KEPT(found) && KEPT(building)))
+    if (!(KEPT(place) && KEPT(answer) && KEPT(one) && KEPT(explanation) && KEPT(found) && KEPT(rescued) && KEPT(building)))
         stop("written outside an array:", function);
     printf("%s ", function);
     tell(NUMBERS, is);
@@ -158,6 +159,21 @@ static void look_up(void) {
     free(first.is), free(second.is), free(name.is), free(key.is), free(field.is);
 }
 
+/* Into a buffer of so many bytes. */
+static void rescue(void) {
+    const uint64_t *r = rescued.is;
+    size_t at;
+    bytes out = many(value(LENGTHS, word()), 0xEE);
+    returned("cdf_rescue", cdf_rescue(stream.is, stream.length, out.is, out.length, rescued.is));
+    TELL(r, CDF_RESCUE_LENGTH);
+    TELL(r, CDF_RESCUE_COUNT);
+    at = FROM(CDF_RESCUE_RUNS);
+    tell_numbers(r + at, CDF_RESCUE_NUMBERS - at);
+    tell_sum(out.is, out.length);
+    putchar('\n');
+    free(out.is);
+}
+
 static void list(void) {
     bytes text = many(value(LENGTHS, word()), 0xEE);
     returned("cdf_listing", cdf_listing(stream.is, stream.length, text.is, text.length, one.is));
@@ -230,7 +246,7 @@ static void run(const char *call) {
     uint64_t before[CDF_PLACE_NUMBERS], building_before[CDF_BUILD_PLACE_NUMBERS];
     memcpy(before, place.is, sizeof before);
     memcpy(building_before, building.is, sizeof building_before);
-    CLEAR(answer.is), CLEAR(one.is), CLEAR(explanation.is), CLEAR(found.is);
+    CLEAR(answer.is), CLEAR(one.is), CLEAR(explanation.is), CLEAR(found.is), CLEAR(rescued.is);
     if (IS_CALL(stream)) {
         free(stream.is);
         stream = in_hex();
@@ -251,6 +267,8 @@ static void run(const char *call) {
         explain();
     } else if (IS_CALL(cdf_lookup)) {
         look_up();
+    } else if (IS_CALL(cdf_rescue)) {
+        rescue();
     } else if (IS_CALL(cdf_listing)) {
         list();
     } else if (IS_CALL(cdf_replay)) {
@@ -279,7 +297,7 @@ static void run(const char *call) {
 
 int main(void) {
     static char line[1 << 19];
-    SET(place), SET(answer), SET(one), SET(explanation), SET(found), SET(building);
+    SET(place), SET(answer), SET(one), SET(explanation), SET(found), SET(rescued), SET(building);
     while (fgets(line, sizeof line, stdin)) {
         if (!strchr(line, '\n')) stop("a line is", "too long");
         run(strtok(line, " \n"));

@@ -3,7 +3,8 @@
 //!
 //! - [`check`] says whether bytes are a stream, [`explain`] why they are not;
 //! - [`Reader`] hands out the units, [`Builder`] writes them;
-//! - [`lookup`] finds a field's value in the first of two streams that has it, [`listing`] is a stream as lines of numbers.
+//! - [`lookup`] finds a field's value in the first of two streams that has it, [`listing`] is a stream as lines of numbers;
+//! - [`rescue`] makes an E/R group of what is whole in a broken one.
 //!
 //! The archive, `libcdf.a`, is made by `./library` at the top of the repository; `CDF_LIB_DIR` names another folder that has it.
 #![deny(unsafe_code)]
@@ -11,6 +12,7 @@
 mod builder;
 mod reader;
 mod refusal;
+mod rescue;
 #[allow(unsafe_code)]
 mod sys;
 mod tools;
@@ -19,5 +21,6 @@ mod unit;
 pub use builder::{Builder, Root};
 pub use reader::Reader;
 pub use refusal::Refusal;
+pub use rescue::{rescue, Rescued};
 pub use tools::{check, explain, listing, lookup, version, Explanation, Found, Key, OpenUnit, Which};
 pub use unit::{Action, Id, Unit, NAME_MOST, VALUE_MOST};

@@ -13,10 +13,10 @@ use std::fmt;
 /// ```
 #[derive(Clone, Copy, Debug, PartialEq, Eq, Hash)]
 pub struct Refusal {
-    /// Which rule is broken first, 2 to 15. Section 4 of docs/FORMAT.md has them all.
+    /// Which rule is broken first, 2 to 17. Section 4 of docs/FORMAT.md has them all.
     pub number: u64,
     /// Of check and reader, with 3 to 8 where the unit begins that breaks the rule, with 9 the first byte in it that does, with 10 where
-    /// the unit begins that lacks something. The builder's numbers have none.
+    /// the unit begins that lacks something. The numbers of builder and rescue have none.
     pub offset: Option<usize>,
 }
 
@@ -48,6 +48,8 @@ impl Refusal {
             13 => "the stream would be longer than 65,535 bytes",
             14 => "what was to be added is no group that the check accepts",
             15 => "neither stream has the field that is looked up",
+            16 => "nothing in the broken group can be kept",
+            17 => "more than 64 runs of bytes would be dropped",
             _ => "a number that this version does not know",
         }
     }

@@ -9,13 +9,15 @@ pub type Answer = [u64; 8];
 pub type Explained = [u64; 25];
 /// The numbers of a lookup's answer, `CDF_LOOKUP_NUMBERS`.
 pub type Found = [u64; 4];
+/// The numbers of a rescue's answer, `CDF_RESCUE_NUMBERS`.
+pub type Rescued = [u64; 130];
 /// The numbers of a builder's place, `CDF_BUILD_PLACE_NUMBERS`.
 pub type BuildPlace = [u64; 10];
 /// As many bytes as the listing of any stream takes, `CDF_LISTING_ROOM`.
 pub const LISTING_ROOM: usize = 207_527;
 
 mod archive {
-    use super::{Answer, BuildPlace, Explained, Found, Place};
+    use super::{Answer, BuildPlace, Explained, Found, Place, Rescued};
 
     extern "C" {
         pub fn cdf_version() -> u64;
@@ -35,6 +37,7 @@ mod archive {
             field_length: usize,
             answer: &mut Found,
         ) -> u64;
+        pub fn cdf_rescue(stream: *const u8, length: usize, out: *mut u8, out_length: usize, answer: &mut Rescued) -> u64;
         pub fn cdf_first(stream: *const u8, length: usize, place: &mut Place, answer: &mut Answer) -> u64;
         pub fn cdf_next(stream: *const u8, length: usize, place: &mut Place, answer: &mut Answer) -> u64;
         pub fn cdf_skip(stream: *const u8, length: usize, place: &mut Place, answer: &mut Answer) -> u64;
@@ -104,6 +107,13 @@ pub fn lookup(first: &[u8], second: &[u8], template: &[u8], key_id: u64, key: &[
             &mut answer,
         )
     };
+    (number, answer)
+}
+
+pub fn rescue(stream: &[u8], out: &mut [u8]) -> (u64, Rescued) {
+    let mut answer = [0; 130];
+    // SAFETY: as above.
+    let number = unsafe { archive::cdf_rescue(stream.as_ptr(), stream.len(), out.as_mut_ptr(), out.len(), &mut answer) };
     (number, answer)
 }
 

@@ -10,6 +10,7 @@ pub enum Command {
     Check,
     Explain,
     Lookup,
+    Rescue,
     Show,
     /// The help, of one command or of all.
     Help(Option<String>),
@@ -53,6 +54,7 @@ impl Args {
             "check" => Ok(Command::Check),
             "explain" => Ok(Command::Explain),
             "lookup" => Ok(Command::Lookup),
+            "rescue" => Ok(Command::Rescue),
             "show" => Ok(Command::Show),
             "help" => {
                 if self.flag("--man") {

@@ -196,7 +196,23 @@ impl<'a> Fault<'a> {
         if let Some(cause) = likely(self.file, &self.units, self.start) {
             text.push_str(&format!("Likely cause: {cause}\n"));
         }
+        if let Some(rescue) = self.rescue() {
+            text.push_str(&format!("{rescue}\n"));
+        }
         text
+    }
+
+    /// Of an E/R data group what a rescue would do.
+    fn rescue(&self) -> Option<String> {
+        let is_group = self.byte(5) == Some(Id::ErGroup.number() as u8);
+        if is_group && self.file.is_long() {
+            return Some("'cdf rescue FILE OUT' reads more of it, and keeps what is whole.".to_string());
+        }
+        let answer = is_group.then(|| cdf::rescue(&self.file.bytes, &mut vec![0; MOST]).map(|rescued| rescued.group.len()))?;
+        Some(match answer {
+            Ok(length) => format!("'cdf rescue FILE OUT' keeps what is whole in it, as a group of {length} bytes."),
+            Err(refusal) => format!("'cdf rescue FILE OUT' would refuse it: {}.", refusal.rule()),
+        })
     }
 
     fn json(&self) -> String {

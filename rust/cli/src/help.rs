@@ -5,11 +5,11 @@ use crate::Stop;
 const LEAD: &str = "\
 usage: cdf COMMAND [OPTION].. [FILE]..
 
-Checks, explains, shows and lists Common Data Format streams: family trees, function calls and files as nested units.
+Checks, explains, shows, lists and rescues Common Data Format streams: family trees, function calls and files as nested units.
 ";
 
 /// Name, words of its call, and what it does.
-const COMMANDS: [(&str, &str, &str); 6] = [
+const COMMANDS: [(&str, &str, &str); 7] = [
     (
         "check",
         "check [--json] [FILE or FOLDER]..",
@@ -54,12 +54,22 @@ is searched. KEY is '#' and a number, 0 to 4294967295, for a temporary key, and 
 it is, and a line feed behind it.
 The exit status is 1 for a refusal: a file that the check refuses, a root that is no E/R data group, a field that is not there.",
     ),
+    (
+        "rescue",
+        "rescue [--json] FILE OUT",
+        "\
+Keeps what is whole in a broken E/R data group, and writes the group of it to OUT: where a template, a relation or an ordered relation
+stands whole, from byte 6 on, it is kept, and else a byte is dropped. Says how many units were kept, and of each run of dropped bytes
+what was kept before and after it and what in it is right by itself; which kept relations name what is not kept; and where a unit that
+was kept may be the one that lost bytes. OUT is written as a whole or not at all, and may be FILE. Up to 1,048,576 bytes are read.
+The exit status is 1 for a refusal: nothing to keep, more than 64 runs, too long a file or group. OUT then stays as it was.",
+    ),
     ("help", "help [--man] [COMMAND]", "This text, or that of one command. --man writes the manual page."),
 ];
 
 const TAIL: &str = "\
 Without FILE, or where it is '-', the stream is read from standard input. Behind '--' every word is a file. At most 65,536
-bytes are read of a file: a stream has at most 65,535, so a longer file is refused whatever follows.
+bytes are read of a file: a stream has at most 65,535, so a longer file is refused whatever follows; only 'rescue' reads more.
 --json writes one object a file; docs/USING.md names its fields. What comes from a file is written with control characters escaped.
 Bytes are counted from 0. Exit status: 0 done, 1 refused, 2 wrong usage, or reading or writing failed.
 -h, --help, --version.
@@ -88,7 +98,8 @@ pub fn about(command: Option<&str>) -> Result<String, Stop> {
 /// The manual page, in the language of man.
 pub fn man() -> String {
     let plain = |text: &str| text.replace('\\', "\\e").replace('-', "\\-").replace('\'', "\\(aq");
-    let mut page = String::from(".TH CDF 1\n.SH NAME\ncdf \\- check, explain, show and list Common Data Format streams\n.SH SYNOPSIS\n");
+    let mut page =
+        String::from(".TH CDF 1\n.SH NAME\ncdf \\- check, explain, show, list and rescue Common Data Format streams\n.SH SYNOPSIS\n");
     page.push_str(".B cdf\nCOMMAND [OPTION].. [FILE]..\n.SH DESCRIPTION\n");
     let lead = LEAD.split("\n\n").nth(1).unwrap_or_default();
     page.push_str(&plain(lead));

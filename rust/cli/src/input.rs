@@ -15,35 +15,42 @@ pub const MOST: usize = 65_536;
 pub struct Input {
     /// The file's name, fit to be shown.
     pub name: String,
-    /// At most [`MOST`] of its bytes.
+    /// Its bytes, as many as were asked for.
     pub bytes: Vec<u8>,
 }
 
 impl Input {
     /// Whether it is larger than any stream.
     pub fn is_long(&self) -> bool {
-        self.bytes.len() == MOST
+        self.bytes.len() >= MOST
     }
 }
 
-/// Reads a file; '-' is standard input.
+/// Reads a file as far as a stream can go; '-' is standard input.
 pub fn read(file: &OsStr) -> Result<Input, Stop> {
+    read_up_to(file, MOST)
+}
+
+/// Reads so many bytes of a file, if it has them.
+pub fn read_up_to(file: &OsStr, most: usize) -> Result<Input, Stop> {
     if file == "-" {
         if is_closed(0) {
             return Err(Stop::Failed("cannot read standard input: it is closed".to_string()));
         }
-        let bytes =
-            first_bytes(io::stdin().lock()).map_err(|error| Stop::Failed(format!("cannot read standard input: {}", words(&error))))?;
+        let bytes = first_bytes(io::stdin().lock(), most)
+            .map_err(|error| Stop::Failed(format!("cannot read standard input: {}", words(&error))))?;
         return Ok(Input { name: "standard input".to_string(), bytes });
     }
     let name = escaped_name(file);
-    let bytes = File::open(file).and_then(first_bytes).map_err(|error| Stop::Failed(format!("cannot read {name}: {}", words(&error))))?;
+    let bytes = File::open(file)
+        .and_then(|file| first_bytes(file, most))
+        .map_err(|error| Stop::Failed(format!("cannot read {name}: {}", words(&error))))?;
     Ok(Input { name, bytes })
 }
 
-fn first_bytes(source: impl Read) -> io::Result<Vec<u8>> {
+fn first_bytes(source: impl Read, most: usize) -> io::Result<Vec<u8>> {
     let mut bytes = Vec::new();
-    source.take(MOST as u64).read_to_end(&mut bytes)?;
+    source.take(most as u64).read_to_end(&mut bytes)?;
     Ok(bytes)
 }
 

@@ -1,6 +1,7 @@
 //! The command for people: it reads files, asks the proved archive, words what it answers and writes it. No rule is decided here.
 #![forbid(unsafe_code)]
 
+mod alone;
 mod args;
 mod cause;
 mod check;
@@ -12,6 +13,7 @@ mod json;
 mod list;
 mod lookup;
 mod output;
+mod rescue;
 mod show;
 mod units;
 
@@ -76,6 +78,7 @@ fn run(given: Vec<std::ffi::OsString>, out: &mut Out) -> Result<End, Stop> {
         args::Command::Check => check::run(&mut args, out)?,
         args::Command::Explain => explain::run(&mut args, out)?,
         args::Command::Lookup => lookup::run(&mut args, out)?,
+        args::Command::Rescue => rescue::run(&mut args, out)?,
         args::Command::Show => show::run(&mut args, out)?,
     };
     out.flush()?;

@@ -1,0 +1,48 @@
+-- The unit at the front, by what judge and check tell of it.
+use Prim.Native.Nat.{ℕ, _≤_}
+use mathlib.Core.Path.{_≡_, sym, ap, _∙_}
+use mathlib.Core.Bool.{false}
+use mathlib.Core.List.{List}
+use native.Mathlib.Omega.{arith}
+use borrow.Author.Tests.{ne-eqb}
+use lib.ListN.{length}
+use Rattle.cdf_unit_table.specs.Ids.{erGroup}
+use Rattle.cdf_unit_table.specs.States.{nothing}
+use Rattle.cdf_unit_prefix.specs.Layout.{Layout}
+use Rattle.cdf_unit_judge.specs.Judge.{judgeOf}
+use Rattle.cdf_unit_judge.specs.declared.Judged.the-variants.{Fault, Found}
+use Rattle.cdf_unit_judge.proofs.Placed.{placed}
+use Rattle.cdf_unit_judge.proofs.Faults.{told}
+use Rattle.cdf_unit_list.specs.Units.{listBy, listingIn}
+use Rattle.cdf_unit_list.specs.Check.{Verdict, checkIn}
+use Rattle.cdf_check.specs.Answers.{checkedOf, asAnswer}
+use Rattle.cdf_check.specs.declared.Checked.the-variants.{Accepted, Refused}
+use Rattle.cdf_check.proofs.Exact.{refused-numbered}
+use Rattle.cdf_rescue_spec.specs.Salvage.{wholeAt}
+
+module _ (l : Layout) (s : List ℕ) where
+  abbrev state : ℕ
+  state = nothing erGroup
+
+  none-by : (n : ℕ) → checkIn l state s .number ≡ n → (n ≡ 0 → ⊥) → 0 ≡ wholeAt l s
+  unfolding wholeAt
+  none-by n e some = rw (e, ne-eqb n 0 some)
+
+  faulty : {n k : ℕ} → judgeOf l false state s ≡ Fault n k → checkIn l state s .number ≡ n
+  unfolding checkIn listBy
+  faulty e = rw e
+
+  pub none-judged : {n k : ℕ} → judgeOf l false state s ≡ Fault n k → 0 ≡ wholeAt l s
+  none-judged {n} e = none-by n (faulty e) (λ z. let t = told l false s state e in omega (arith, t .low))
+
+  pub none-checked : (n at : ℕ) → asAnswer (Refused n at) ≡ checkIn l state s → Refused n at ≡ checkedOf (listingIn l state s) → 0 ≡ wholeAt l s
+  unfolding asAnswer listingIn
+  none-checked n at p q = none-by n (sym (ap (λ (x : Verdict). x .number) p)) (refused-numbered l s false state n at q)
+
+  module _ {id action own len next : ℕ} (e : judgeOf l false state s ≡ Found id action own len next) where
+    pub whole-within : len ≤ length s
+    whole-within = placed l false state s e .high
+
+    pub whole-checked : (n : ℕ) → asAnswer (Accepted n) ≡ checkIn l state s → len ≡ wholeAt l s
+    unfolding wholeAt asAnswer
+    whole-checked n p = placed l false state s e .isLength ∙ rw (← ap (λ (x : Verdict). x .number) p)

@@ -1,0 +1,11 @@
+pub mod Steps
+pub mod Cutting
+pub mod Runs
+pub mod Holding
+pub mod Wholes
+pub mod Deciding
+pub mod Answer
+pub mod Grouping
+pub mod Unchanged
+pub mod Unseen
+pub mod Proved

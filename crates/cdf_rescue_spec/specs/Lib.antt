@@ -1,0 +1,4 @@
+pub mod Salvage
+pub mod Kept
+pub mod Samples
+pub mod Claims
