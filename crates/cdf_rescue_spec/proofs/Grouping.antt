@@ -38,13 +38,13 @@ all-taken l s [] d = record {}
 all-taken l s (kept from to ∷ ps) d = (whole-taken l (take (to - from) (drop from s)) (d .0), all-taken l s ps (d .1))
 all-taken l s (dropped at ∷ ps) d = all-taken l s ps (d .1)
 
-kept-flat : (s : List ℕ) (ps : List Piece) → keptBytes s ps ≡ flatten (keptUnits s ps)
+pub kept-flat : (s : List ℕ) (ps : List Piece) → keptBytes s ps ≡ flatten (keptUnits s ps)
 unfolding keptBytes keptUnits flatten
 kept-flat s [] = refl
 kept-flat s (kept from to ∷ ps) = rw (kept-flat s ps)
 kept-flat s (dropped at ∷ ps) = kept-flat s ps
 
-kept-group : (l : Layout) (s : List ℕ) (ps : List Piece) → groupOf l (keptBytes s ps) ≡ groupBytes l erGroup (keptUnits s ps)
+pub kept-group : (l : Layout) (s : List ℕ) (ps : List Piece) → groupOf l (keptBytes s ps) ≡ groupBytes l erGroup (keptUnits s ps)
 unfolding groupBytes
 kept-group l s ps = rw (group-is, kept-flat)
 

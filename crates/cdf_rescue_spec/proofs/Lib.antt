@@ -6,6 +6,7 @@ pub mod Wholes
 pub mod Deciding
 pub mod Answer
 pub mod Grouping
+pub mod Refusing
 pub mod Unchanged
 pub mod Unseen
 pub mod Proved

@@ -12,6 +12,7 @@ use Rattle.cdf_rescue_spec.proofs.Cutting.{covers, in-order}
 use Rattle.cdf_rescue_spec.proofs.Runs.{runs-apart, runs-dropped}
 use Rattle.cdf_rescue_spec.proofs.Deciding.{decided, only}
 use Rattle.cdf_rescue_spec.proofs.Grouping.{grouped}
+use Rattle.cdf_rescue_spec.proofs.Refusing.{refuses}
 use Rattle.cdf_rescue_spec.proofs.Unchanged.{unchanged}
 use Rattle.cdf_rescue_spec.proofs.Unseen.{unseen}
 
@@ -24,6 +25,7 @@ of e =
       only = only l;
       apart = λ s. let order = in-order l s in runs-apart (prefixOf l) (order .0) (pieces l s) (order .1);
       runs = λ s. let order = in-order l s in runs-dropped (prefixOf l) (order .0) (pieces l s) (order .1);
+      refuses = λ room s. refuses l s room;
       group = λ room s b. grouped l room s (decided l s b);
       unchanged = λ room s b a is fits.
           let t = grammar .streams e .exactly s b .0 a in

@@ -10,7 +10,7 @@ use Rattle.cdf_unit_prefix.specs.declared.Edition.{Edition}
 use Rattle.cdf_grammar.specs.Encoding.{Bytes}
 use Rattle.cdf_grammar.specs.Claims.{Accepted}
 use Rattle.cdf_rescue_spec.specs.Salvage.{Piece, pieces, runsOf, rescueOf}
-use Rattle.cdf_rescue_spec.specs.Kept.{Tiles, Decided, Apart, InRuns, IsDropped, Group}
+use Rattle.cdf_rescue_spec.specs.Kept.{Tiles, Decided, Apart, InRuns, IsDropped, Refuses, Group}
 use Rattle.cdf_rescue_spec.specs.Samples.{samplesFound, samplesDue, runsFound, runsDue}
 
 -- What holds in one edition.
@@ -25,6 +25,8 @@ pub record InEdition (e : Edition) : Type 0 where
   -- The runs are the dropped bytes, neighbours joined.
   pub apart : (s : List ℕ) → Apart (runsOf (pieces (layoutOf e) s))
   pub runs : (s : List ℕ) (i : ℕ) → InRuns i (runsOf (pieces (layoutOf e) s)) ↔ IsDropped i (pieces (layoutOf e) s)
+  -- The number is the first of 02, f's that applies. Beside it no run is told, and nothing is written.
+  pub refuses : (room : ℕ) (s : List ℕ) → Refuses (layoutOf e) room s
   -- What is written is accepted.
   pub group : (room : ℕ) (s : List ℕ) → Bytes s → rescueOf (layoutOf e) room s .number ≡ 0 → Group (layoutOf e) room s
   -- An accepted E/R group comes out unchanged, with no runs.

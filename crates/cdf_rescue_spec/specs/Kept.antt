@@ -5,11 +5,12 @@ use mathlib.Core.List.{List, [], _∷_, map}
 use mathlib.Core.Logic.{_⊎_}
 use lib.ListN.{length, take, drop}
 use Rattle.cdf_unit_table.specs.Ids.{erGroup, template, relation, orderedRelation}
-use Rattle.cdf_unit_prefix.specs.Layout.{Layout}
+use Rattle.cdf_unit_prefix.specs.Layout.{Layout, prefixOf}
 use Rattle.cdf_grammar.specs.Trees.{Forest, none, tree, ids, singly}
 use Rattle.cdf_grammar.specs.Published.{Among, Conforms}
 use Rattle.cdf_grammar.specs.Encoding.{Stream, encode}
-use Rattle.cdf_rescue_spec.specs.Salvage.{Piece, kept, dropped, pieces, Run, runsOf, rescueOf}
+use Rattle.cdf_grammar.specs.Groups.{groupBytes}
+use Rattle.cdf_rescue_spec.specs.Salvage.{Piece, kept, dropped, pieces, Run, runsOf, refusal, rescueOf}
 
 -- The bytes are one whole unit that an E/R group may hold, in the words of the published grammar; its length can be written.
 pub record Whole (l : Layout) (s : List ℕ) : Type 0 where
@@ -53,6 +54,23 @@ unfoldable pub keptUnits : List ℕ → List Piece → List (List ℕ)
 keptUnits s [] = []
 keptUnits s (kept from to ∷ ps) = take (to - from) (drop from s) ∷ keptUnits s ps
 keptUnits s (dropped at ∷ ps) = keptUnits s ps
+
+-- Where the first holds the second does, and elsewhere the third.
+abbrev pub If : Type 0 → Type 0 → Type 0 → Type 0
+If a b c = (a → b) × ((a → ⊥) → c)
+
+-- The number that a rescue answers is the first here that applies; a refusal tells no run and writes nothing.
+abbrev pub Refuses : Layout → ℕ → List ℕ → Type 0
+Refuses l room s =
+    let units = keptUnits s (pieces l s) in
+    let size = length (groupBytes l erGroup units) in
+    let answer = rescueOf l room s in
+    If (length s < prefixOf l) (answer ≡ refusal 3)
+    (If (units ≡ []) (answer ≡ refusal 16)
+    (If (64 < length (runsOf (pieces l s))) (answer ≡ refusal 17)
+    (If (l .limit < size) (answer ≡ refusal 13)
+    (If (room < size) (answer ≡ refusal 12)
+    (answer .number ≡ 0)))))
 
 -- A rescue that answers 0: what is written is an accepted E/R group of what was kept, there is room for it, and all runs are told.
 pub record Group (l : Layout) (room : ℕ) (s : List ℕ) : Type 0 where

@@ -25,7 +25,7 @@ unfoldable pub pieceThen : (ℕ → List Piece) → ℕ → ℕ → List Piece
 pieceThen more at zero = dropped at ∷ more (suc at)
 pieceThen more at (suc k) = kept at (at + suc k) ∷ more (at + suc k)
 
--- From a position on. Each piece takes one of the fuel, so that out of it s is at its end.
+-- From a position on. Each piece takes one of the fuel: `length s` is enough, since then the end of s is reached first.
 unfoldable pub piecesFrom : ℕ → Layout → List ℕ → ℕ → List Piece
 unfolding pieceThen wholeAt
 piecesFrom zero l s at = []

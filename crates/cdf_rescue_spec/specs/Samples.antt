@@ -35,7 +35,7 @@ ofTwo = 0xcd ∷ 0xf1 ∷ 0 ∷ 0x56 ∷ 0 ∷ 4 ∷ []
 abbrev three : List ℕ
 three = 0xcd ∷ 0xf1 ∷ 0 ∷ 0x7e ∷ 0 ∷ 4 ∷ (person ++ (person ++ person))
 
--- A lost byte before each of n templates.
+-- A stray byte before each of n templates.
 unfoldable pub gaps : ℕ → List ℕ
 gaps zero = []
 gaps (suc n) = 0 ∷ (keyA ++ gaps n)
@@ -57,13 +57,16 @@ samplesFound =
     ∷ rescue 45 k2
     -- whatever stands in the first six bytes
     ∷ rescue 46 (0 ∷ 1 ∷ 2 ∷ 3 ∷ 4 ∷ 5 ∷ drop 6 k2)
-    -- a byte lost in the first of two templates, in the second, and between them
+    -- a byte lost in the first of two templates, in the second, and two bytes added between them
     ∷ rescue 100 (ofBoth ++ (without 7 keyA ++ keyB))
     ∷ rescue 100 (ofBoth ++ (keyA ++ without 14 keyB))
     ∷ rescue 100 (ofBoth ++ (keyA ++ (0xcd ∷ 0xf1 ∷ keyB)))
-    -- two runs, and no run where a whole unit stands in a broken one
+    -- two runs; and the front of a broken unit before whole ones
     ∷ rescue 100 (ofBoth ++ (0 ∷ (keyA ++ (0 ∷ 0 ∷ keyB))))
     ∷ rescue 100 (ofBoth ++ (take 8 keyA ++ (keyA ++ keyB)))
+    -- room for what is kept, less than the input has; and a byte less than that
+    ∷ rescue 21 (ofBoth ++ (without 7 keyA ++ keyB))
+    ∷ rescue 20 (ofBoth ++ (without 7 keyA ++ keyB))
     -- K2 with a byte lost, and twice with a byte between; of three persons a byte lost in the first one's name, and in its last value
     ∷ rescue 100 (without 20 k2)
     ∷ rescue 100 (k2 ++ (0 ∷ k2))
@@ -76,6 +79,8 @@ samplesFound =
     ∷ rescue 100 []
     -- in the second edition these are no units
     ∷ rescueOf (layoutOf Second) 100 (0 ∷ 0 ∷ k2)
+    -- and seven bytes are too few
+    ∷ rescueOf (layoutOf Second) 100 (take 7 k2)
     ∷ []
 
 abbrev pub samplesDue : List Rescued
@@ -88,16 +93,19 @@ samplesDue =
     ∷ whole (run 21 23 ∷ []) (ofBoth ++ (keyA ++ keyB))
     ∷ whole (run 6 7 ∷ run 22 24 ∷ []) (ofBoth ++ (keyA ++ keyB))
     ∷ whole (run 6 14 ∷ []) (ofBoth ++ (keyA ++ keyB))
+    ∷ whole (run 6 20 ∷ []) (ofOne ++ keyB)
+    ∷ refusal 12
     ∷ refusal 16
     ∷ whole (run 46 53 ∷ []) (ofTwo ++ (person ++ person))
     ∷ whole (run 6 45 ∷ []) (ofTwo ++ (person ++ person))
-    -- the first is kept with the second one's mark as the end of its value, and the second is dropped
+    -- the first is kept with the first byte of the second one's mark as the end of its value, and the second is dropped
     ∷ whole (run 46 85 ∷ []) (ofTwo ++ (take 39 person ++ (0xcd ∷ person)))
     ∷ refusal 16
     ∷ refusal 16
     ∷ refusal 3
     ∷ refusal 3
     ∷ refusal 16
+    ∷ refusal 3
     ∷ []
 
 -- With 64 runs, and with one more.
