@@ -46,16 +46,19 @@ def runs(cdf, model, write, compare, differs, wrong, names_in):
                     ("status", run.returncode, int(number > 0)))
         if texts.keys() != inputs.RESCUED.keys():
             wrong.append(f"samples/rescued: its files are not those of the inputs: {sorted(texts.keys() ^ inputs.RESCUED.keys())}")
+        if texts.get("rescue-person", "?") not in (inputs.ROOT / "samples/README.md").read_text(encoding="utf-8"):
+            wrong.append("samples/README.md: not what is stored of rescue-person")
         if met != {0, 3, 16, 17}:
             wrong.append(f"not all of 0, 3, 16 and 17 are met by rescues: {met}")
         # What is there stays on a refusal, and is replaced else: through a link too, and where it is what was read.
         broken.write_bytes(inputs.K1)
         mended.write_bytes(b"as it was")
-        refused = "broken.cdf: refused, number 16: nothing in the broken group can be kept. Nothing is written.\n"
+        refused = ("broken.cdf: refused, number 16: no whole template or relation was found. Nothing is written.\n"
+                   "Nothing is wrong with it: it is a whole file data group, and needs no rescue.\n")
         compare("cdf rescue, refused where a file is", rescue, b"", refused, "", 1, folder)
         differs("cdf rescue, refused: the file", ("bytes", mended.read_bytes(), b"as it was"))
         (folder / "link").symlink_to("mended.cdf")
-        whole_group = "written, an E/R data group of 46 bytes, with 1 unit in it.\nNothing is dropped.\n"
+        whole_group = "written, 46 bytes. Kept: 1 template, 0 relations. Nothing was dropped.\n"
         compare("cdf rescue, to a link", [cdf, "rescue", "-", "link"], inputs.K2, "link: " + whole_group, "", 0, folder)
         differs("cdf rescue, to a link: the file", ("bytes", mended.read_bytes(), inputs.K2), ("link", (folder / "link").is_symlink(), True))
         broken.write_bytes(inputs.K2)

@@ -48,8 +48,8 @@ impl Refusal {
             13 => "the stream would be longer than 65,535 bytes",
             14 => "what was to be added is no group that the check accepts",
             15 => "neither stream has the field that is looked up",
-            16 => "nothing in the broken group can be kept",
-            17 => "more than 64 runs of bytes would be dropped",
+            16 => "no whole template or relation was found",
+            17 => "the bytes are damaged in more than 64 places",
             _ => "a number that this version does not know",
         }
     }

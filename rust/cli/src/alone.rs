@@ -2,15 +2,19 @@
 
 use cdf::{Id, Reader, NAME_MOST, VALUE_MOST};
 
-use crate::units::{head, whole};
+use crate::units::{head, whole, Units};
 
 /// A unit that is right by itself.
 pub struct Alone {
     /// Where it begins.
     pub start: usize,
+    /// Where it ends, by its length.
+    pub end: usize,
     /// What it is.
     pub id: Id,
-    /// Kind, name, number and value.
+    /// Kind and name or number.
+    pub name: String,
+    /// That, and the value.
     pub says: String,
 }
 
@@ -32,7 +36,7 @@ pub fn alone(bytes: &[u8], at: usize) -> Option<Alone> {
         Id::TemporaryKey | Id::TemplateKey | Id::Field | Id::RelationKey => stated,
         _ => return None,
     };
-    if length < 6 || length > 6 + 1 + NAME_MOST + VALUE_MOST {
+    if !(6..=6 + 1 + NAME_MOST + VALUE_MOST).contains(&length) {
         return None;
     }
     let mut own = bytes.get(at..at + length)?.to_vec();
@@ -47,19 +51,22 @@ pub fn alone(bytes: &[u8], at: usize) -> Option<Alone> {
     let stream = unit(4, 0, &around);
     let start = stream.len() - own.len();
     let found = Reader::new(&stream).map_while(Result::ok).find(|unit| unit.start() == start)?;
-    Some(Alone { start: at, id, says: if id == Id::Field { whole(&found) } else { head(&found) } })
+    Some(Alone { start: at, end: at + stated, id, name: head(&found), says: if id == Id::Field { whole(&found) } else { head(&found) } })
 }
 
-/// Whether the unit that begins at a byte is whole: the E/R data group of it alone is accepted.
-pub fn is_whole(bytes: &[u8], at: usize) -> bool {
-    let Some(prefix) = bytes.get(at..at + 6) else { return false };
+/// The unit that begins at a byte as a person finds it, if it is whole: the E/R data group of it alone is accepted.
+pub fn whole_at(bytes: &[u8], at: usize) -> Option<String> {
+    let prefix = bytes.get(at..at + 6)?;
     let length = usize::from(prefix[2]) * 256 + usize::from(prefix[3]);
-    length <= 65_529 && bytes.get(at..at + length).is_some_and(|own| cdf::check(&unit(4, 0, own)).is_ok())
+    let group = unit(4, 0, bytes.get(at..at + length).filter(|own| own.len() <= 65_529)?);
+    cdf::check(&group).ok()?;
+    let units = Units::of(&group);
+    units.at(6).map(|unit| units.found_by(unit))
 }
 
 #[cfg(test)]
 mod tests {
-    use super::{alone, is_whole, unit};
+    use super::{alone, unit, whole_at};
 
     #[test]
     fn units_of_each_kind_are_right_by_themselves() {
@@ -80,8 +87,9 @@ mod tests {
             assert!(alone(&[&bytes[..5], &[0], &bytes[6..]].concat(), 0).is_none());
         }
         // A template of which the end is lost; one whose name is not whole; another's action.
-        assert!(alone(&person[..14], 0).is_some() && !is_whole(&person[..14], 0));
+        assert!(alone(&person[..14], 0).is_some() && whole_at(&person[..14], 0).is_none());
         assert!(alone(&person[..10], 0).is_none() && alone(&unit(9, 3, &[0; 4]), 0).is_none());
-        assert!(is_whole(&person, 0) && !is_whole(&key, 0));
+        assert_eq!(whole_at(&person, 0).as_deref(), Some("template PERSON with the temporary key 7"));
+        assert!(whole_at(&key, 0).is_none());
     }
 }

@@ -59,10 +59,12 @@ The exit status is 1 for a refusal: a file that the check refuses, a root that i
         "rescue [--json] FILE OUT",
         "\
 Keeps what is whole in a broken E/R data group, and writes the group of it to OUT: where a template, a relation or an ordered relation
-stands whole, from byte 6 on, it is kept, and else a byte is dropped. Says how many units were kept, and of each run of dropped bytes
-what was kept before and after it and what in it is right by itself; which kept relations name what is not kept; and where a unit that
-was kept may be the one that lost bytes. OUT is written as a whole or not at all, and may be FILE. Up to 1,048,576 bytes are read.
-The exit status is 1 for a refusal: nothing to keep, more than 64 runs, too long a file or group. OUT then stays as it was.",
+stands whole, from byte 6 on, it is kept, and else a byte is dropped. Says how many templates and relations were kept, and of each run
+of dropped bytes what was kept before and after it and what in it can still be read. Under a run stands what is to be checked: a unit
+kept before it that may have lost bytes, and one kept after it that may be text of a field. Then come the kept relations that name a
+template which was not kept. OUT is written as a whole or not at all, and may be FILE. Up to 1,048,576 bytes are read.
+The exit status is 1 for a refusal: fewer than six bytes, nothing to keep, more than 64 runs, too long a file or group. OUT then stays
+as it was.",
     ),
     ("help", "help [--man] [COMMAND]", "This text, or that of one command. --man writes the manual page."),
 ];

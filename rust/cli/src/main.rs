@@ -14,6 +14,7 @@ mod list;
 mod lookup;
 mod output;
 mod rescue;
+mod saved;
 mod show;
 mod units;
 
