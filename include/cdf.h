@@ -79,8 +79,8 @@ uint64_t cdf_lookup(const uint8_t *first, size_t first_length, const uint8_t *se
  * What it costs: a whole group takes less than two checks of it. Where bytes are dropped, a unit is tried at each of them, and one that
  * seems to stand there may claim up to 65,535 bytes before a rule breaks. So bytes of the first edition, which are those rescued here,
  * take at most 10,923 judgements a byte, however many there are: some seconds for a megabyte that was made for it. Where lengths have
- * four bytes, as in the second edition, no claim is too long, and the slowest bytes known take n * n / 447 judgements in all for n of
- * them: hours at 16 MB. Set a bound on bytes from strangers. What was measured stands in docs/bench/README.md. */
+ * four bytes, as in the second edition, a length may claim all bytes that are left, and the slowest bytes known take n * n / 447
+ * judgements in all for n of them: hours at 16 MB. Set a bound on bytes from strangers. What was measured stands in docs/bench/README.md. */
 uint64_t cdf_rescue(const uint8_t *stream, size_t length, uint8_t *out, size_t out_length, uint64_t answer[CDF_RESCUE_NUMBERS]);
 
 /* The reader keeps nothing between calls. All it knows is in a place, 20 numbers that the caller holds; copy it to come back to it.
