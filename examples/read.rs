@@ -1,17 +1,18 @@
-//! Reads a stream from a file and prints each unit: its id, where it starts, where its own data end, where it ends.
+//! Reads a stream from a file and prints each unit, indented by its depth: its rank and its id, where it starts, where its own data end,
+//! where it ends.
 extern "C" {
-    fn cdf_first(stream: *const u8, length: usize, place: &mut [u64; 20], answer: &mut [u64; 8]) -> u64;
-    fn cdf_next(stream: *const u8, length: usize, place: &mut [u64; 20], answer: &mut [u64; 8]) -> u64;
+    fn cdf_first(stream: *const u8, length: usize, place: &mut [u64; 25], answer: &mut [u64; 10]) -> u64;
+    fn cdf_next(stream: *const u8, length: usize, place: &mut [u64; 25], answer: &mut [u64; 10]) -> u64;
 }
 
 fn main() -> std::io::Result<()> {
     let stream = std::fs::read(std::env::args().nth(1).expect("usage: read FILE"))?;
-    let (mut place, mut answer) = ([0; 20], [0; 8]);
+    let (mut place, mut answer) = ([0; 25], [0; 10]);
     // SAFETY of both calls: pointer and length are those of a slice, and nothing lent overlaps.
     let mut number = unsafe { cdf_first(stream.as_ptr(), stream.len(), &mut place, &mut answer) };
     while number == 0 {
-        let [_, id, _, start, own_end, end, ..] = answer;
-        println!("{id:2} {start:5} {own_end:5} {end:5}");
+        let [_, id, _, start, own_end, end, _, _, depth, rank] = answer;
+        println!("{}{rank}: {id} {start} {own_end} {end}", "  ".repeat(depth as usize - 1));
         number = unsafe { cdf_next(stream.as_ptr(), stream.len(), &mut place, &mut answer) };
     }
     match number {

@@ -13,7 +13,7 @@ extern "C" {
 /* The version of the numbers in these files. A place may be copied, stored and sent, but it does not outlive its version: in another
  * one the states, or the slots of a place, may have other numbers. So store the version with a place, and start anew where
  * it is another. */
-#define CDF_VERSION 1
+#define CDF_VERSION 2
 
 /* Returns the version of the archive: CDF_VERSION, if the archive and these files belong together. */
 uint64_t cdf_version(void);

@@ -1,7 +1,9 @@
 //! The functions of the archive, called as C calls them.
 
 use cdf_model::lookup::Asked;
-use cdf_model::numbers::{BuilderNumbers, ExplanationNumbers, FoundNumbers, ReaderNumbers, RescueNumbers};
+use cdf_model::numbers::{
+    AnswerNumbers, BuilderNumbers, ExplanationNumbers, FoundNumbers, ReaderNumbers, RescueNumbers,
+};
 use cdf_model::reader::Call;
 
 type ReaderCall = unsafe extern "C" fn(*const u8, usize, *mut u64, *mut u64) -> u64;
@@ -106,7 +108,7 @@ pub fn check(stream: &[u8]) -> (u64, u64) {
     answered(|answer| unsafe { cdf_check(pointer(stream), stream.len(), answer) })
 }
 
-pub fn reader(call: Call, stream: &[u8], place: &mut ReaderNumbers) -> (u64, [u64; 8]) {
+pub fn reader(call: Call, stream: &[u8], place: &mut ReaderNumbers) -> (u64, AnswerNumbers) {
     let function: ReaderCall = match call {
         Call::First => cdf_first,
         Call::Next => cdf_next,
@@ -115,7 +117,7 @@ pub fn reader(call: Call, stream: &[u8], place: &mut ReaderNumbers) -> (u64, [u6
         Call::Previous => cdf_previous,
         Call::AbnormalEnd => cdf_abnormal_end,
     };
-    let mut answer = [UNWRITTEN; 8];
+    let mut answer = [UNWRITTEN; 10];
     let number = guarded(&mut answer, |answer| {
         guarded(place, |place| unsafe { function(pointer(stream), stream.len(), place, answer) })
     });

@@ -12,9 +12,9 @@ use cdf_model::numbers::CODES;
 use cdf_model::plain::Plain;
 use cdf_model::random::Random;
 use cdf_model::reader::{call, Call, Place, Reply};
-use cdf_model::rules::{complete, Refusal, Unit, LIMIT};
+use cdf_model::rules::{complete, Handed, Refusal, Unit, LIMIT};
 use cdf_model::streams::{gone_on, Tree};
-use cdf_model::units::list;
+use cdf_model::units::{handed, list};
 
 fn expect(tally: &Tally, holds: bool, what: &str, stream: &[u8]) {
     if !holds {
@@ -33,8 +33,10 @@ pub fn stream(tally: &mut Tally, stream: &[u8], tree: Option<&Tree>, random: &mu
     expect(tally, listed.units.len() <= stream.len() / 6, "at most n / 6 units", stream);
     let end = listed.fault.map_or((1, 0), |fault| (fault.number, fault.offset));
     let mut reply = call(Call::First, stream, &Place::default());
-    for unit in &listed.units {
-        let handed_out = (reply.number, reply.offset, reply.unit) == (0, 0, *unit);
+    let ranked = handed(&listed.units);
+    expect(tally, ranked.iter().all(|one| one.rank * 6 <= one.unit.start), "ranks and starts", stream);
+    for one in &ranked {
+        let handed_out = (reply.number, reply.offset, reply.handed) == (0, 0, *one);
         expect(tally, handed_out, "units that start and NEXT hand out", stream);
         reply = call(Call::Next, stream, &reply.place);
     }
@@ -51,6 +53,8 @@ pub fn stream(tally: &mut Tally, stream: &[u8], tree: Option<&Tree>, random: &mu
     if let Some(tree) = tree {
         let same = answer.is_ok() && tree.requests() == requests(stream);
         expect(tally, same, "a tree of the grammar and its reading", stream);
+        let read: Vec<(u64, u64)> = ranked.iter().map(|one| (one.depth, one.rank)).collect();
+        expect(tally, read == tree.levels(1, 0), "depths and ranks in a tree and in its reading", stream);
         expect(tally, rebuilt(&tree.requests()).as_deref() == Some(stream), "building a tree", stream);
     }
     tally.count("streams on which the model agrees with itself");
@@ -103,14 +107,14 @@ fn explained(tally: &mut Tally, stream: &[u8], place: &Place, random: &mut Rando
 /// On an accepted stream the reader with places answers a list of calls, begun by a start, as the plain reader does; parts
 /// are accepted streams.
 pub fn plain(tally: &mut Tally, stream: &[u8], codes: &[u8]) {
-    let units = list(stream).units;
+    let units: Vec<Handed> = handed(&list(stream).units);
     let mut plain = Plain::new(&units);
     let mut place = Place::default();
     for code in codes {
         let which = CODES[usize::from(*code) - 1];
         let reply = call(which, stream, &place);
-        let Reply { number, offset, unit, part, .. } = reply;
-        let same = (number, unit, part) == plain.call(which) && offset == 0;
+        let Reply { number, offset, handed, part, .. } = reply;
+        let same = (number, handed, part) == plain.call(which) && offset == 0;
         expect(tally, same, "the plain reader", stream);
         if which == Call::GetStream && number == 0 {
             let part = &stream[part.0 as usize..(part.0 + part.1) as usize];

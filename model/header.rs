@@ -20,11 +20,13 @@ use crate::rescue::rescue;
 use crate::rescue_samples::rescues;
 
 /// The version of the numbers.
-const VERSION: u64 = 1;
+const VERSION: u64 = 2;
 /// Room for any listing: as many units as 65,535 bytes can have, 19 bytes a line, and 9 for the last.
 const ROOM: usize = 65_535 / 6 * 19 + 9;
-const ANSWER: [&str; 8] = ["OFFSET", "ID", "ACTION", "START", "OWN_END", "END", "PART_START", "PART_LENGTH"];
-const ENTRY: [&str; 9] = ["NUMBER", "OFFSET", "PART_START", "PART_LENGTH", "ID", "ACTION", "START", "OWN_END", "END"];
+const ANSWER: [&str; 10] =
+    ["OFFSET", "ID", "ACTION", "START", "OWN_END", "END", "PART_START", "PART_LENGTH", "DEPTH", "RANK"];
+const ENTRY: [&str; 11] =
+    ["NUMBER", "OFFSET", "PART_START", "PART_LENGTH", "ID", "ACTION", "START", "OWN_END", "END", "DEPTH", "RANK"];
 
 /// The lines that are read, and those that are owed.
 #[derive(Default)]

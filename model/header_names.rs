@@ -3,7 +3,7 @@
 use crate::builder;
 use crate::numbers;
 use crate::reader::{self, Call, Reply};
-use crate::rules::{Had, Unit};
+use crate::rules::{Had, Handed, Unit};
 
 const NUMBERS: [&str; 18] = [
     "CDF_OK",
@@ -126,7 +126,7 @@ pub fn sum(bytes: &[u8]) -> String {
 
 /// Offset, part and unit of an answer or an entry, each with its name behind this.
 pub fn parts<const N: usize>(of: &str, reply: &Reply, order: [&str; N]) -> String {
-    let Unit { id: unit, action: done, start, own, end } = reply.unit;
+    let Handed { unit: Unit { id: unit, action: done, start, own, end }, depth, rank } = reply.handed;
     let told = |name: &str| match name {
         "NUMBER" => number(reply.number).to_string(),
         "OFFSET" => reply.offset.to_string(),
@@ -135,6 +135,8 @@ pub fn parts<const N: usize>(of: &str, reply: &Reply, order: [&str; N]) -> Strin
         "START" => start.to_string(),
         "OWN_END" => own.to_string(),
         "END" => end.to_string(),
+        "DEPTH" => depth.to_string(),
+        "RANK" => rank.to_string(),
         "PART_START" => reply.part.0.to_string(),
         _ => reply.part.1.to_string(),
     };
@@ -146,7 +148,8 @@ pub fn place(place: &reader::Place) -> String {
     let (innermost, outer) = place.open.split_last().expect("an open unit");
     let Unit { id: last, action: done, start, own, end } = place.last;
     format!(
-        " CDF_PLACE_POSITION={} CDF_PLACE_COUNT={} CDF_PLACE_INNERMOST={} CDF_PLACE_OUTER={} CDF_PLACE_LAST={},{},{start},{own},{end} {}",
+        " CDF_PLACE_POSITION={} CDF_PLACE_COUNT={} CDF_PLACE_INNERMOST={} CDF_PLACE_OUTER={} CDF_PLACE_LAST={},{},{start},{own},{end} {} \
+         CDF_PLACE_RANKS=,{}{} CDF_PLACE_LAST_RANK={}",
         place.position,
         place.open.len(),
         unit(innermost),
@@ -154,6 +157,9 @@ pub fn place(place: &reader::Place) -> String {
         id(last),
         action(done),
         if place.fresh { "CDF_PLACE_FLAG" } else { "-" },
+        innermost.rank,
+        outer.iter().map(|unit| format!(",{}", unit.rank)).collect::<String>(),
+        place.last_rank,
     )
 }
 

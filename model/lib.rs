@@ -1,4 +1,4 @@
-//! A second implementation of document 01, and of requests a) to d) and f) of 02, in plain Rust, written from the documents
+//! A second implementation of document 01, and of requests a) to d), f) and g) of 02, in plain Rust, written from the documents
 //! and not from the proved code.
 
 pub mod build_cases;
@@ -16,11 +16,12 @@ mod named;
 pub mod numbers;
 pub mod plain;
 pub mod random;
+pub mod ranked_samples;
 pub mod reader;
 pub mod rescue;
 pub mod rescue_samples;
 pub mod rules;
 pub mod samples;
 pub mod streams;
-pub mod tree;
+mod tree;
 pub mod units;

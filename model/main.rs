@@ -13,6 +13,7 @@ mod looked_up;
 mod lookups;
 mod places;
 mod pointed;
+mod ranked;
 mod readers;
 mod rescued;
 mod rescues;
@@ -24,12 +25,16 @@ use cdf_model::check::check;
 use cdf_model::explain::explain;
 use cdf_model::lookup::lookup;
 use cdf_model::lookup_samples::lookups;
+use cdf_model::numbers::reader_place;
 use cdf_model::random::Random;
+use cdf_model::ranked_samples::{at_places, levels};
+use cdf_model::reader::{self, Call};
 use cdf_model::rescue::rescue;
 use cdf_model::rescue_samples::rescues;
 use cdf_model::rules::Refusal;
 use cdf_model::samples::{samples, KEYS, POINTED, TOLD};
 use cdf_model::streams::{damage_bytes, damage_tree, filled, grow, mend_root, noise, redirected, Tree};
+use cdf_model::units::{handed, list};
 use std::time::{Duration, Instant};
 use tally::Tally;
 
@@ -132,6 +137,17 @@ fn fixed(tally: &mut Tally) {
         assert_eq!(rescue(&bytes, room), owed, "{label}");
         // A room that no buffer has is as good as one for all bytes.
         rescues::compare_rescue(tally, &bytes, room.min(100_000));
+    }
+    for (label, bytes, owed) in levels() {
+        let told: Vec<(u64, u64)> = handed(&list(&bytes).units).iter().map(|one| (one.depth, one.rank)).collect();
+        assert_eq!(told, owed, "{label}");
+    }
+    for at in at_places() {
+        for (call, owed) in [(Call::Previous, at.previous), (Call::Next, at.next)] {
+            let said = reader::call(call, &at.stream, &reader_place(&at.place));
+            assert_eq!((said.number, said.handed.depth, said.handed.rank), owed, "{call:?}: {}", at.label);
+            readers::compare_call(tally, call, &at.stream, &mut at.place.clone());
+        }
     }
     for (_, bytes) in &cases {
         readers::compare_check(tally, bytes);

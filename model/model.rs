@@ -3,6 +3,7 @@
 //!   model explain FILE why it is refused, in numbers: the check's number and offset; how many units are open, id and start
 //!                      of each; how many ids may stand there, and these
 //!   model list FILE    what the listing program writes
+//!   model levels FILE  start, depth and rank of each unit, of a refused stream of those before the fault
 //!   model lookup FIRST SECOND TEMPLATE KEY_ID KEY FIELD
 //!                      which value counts in two files, in numbers: number, offset, which file, start and length; names
 //!                      with their count byte and keys are written as pairs of hexadecimal digits
@@ -23,6 +24,7 @@ use cdf_model::build_run::BuildCase;
 use cdf_model::explain::{explain, Explanation};
 use cdf_model::lookup::{lookup, Asked, Found};
 use cdf_model::rescue::{rescue, Rescued};
+use cdf_model::units::{handed, list};
 use cdf_model::{cases, check, header, samples};
 use std::fs::File;
 use std::io::{self, Read, Write};
@@ -45,6 +47,11 @@ fn told(stream: &[u8]) -> String {
     numbers.push(ids.len() as u64);
     numbers.extend(ids);
     written(&numbers)
+}
+
+fn levels(stream: &[u8]) -> String {
+    let units = handed(&list(stream).units);
+    units.iter().map(|one| written(&[one.unit.start, one.depth, one.rank]) + "\n").collect()
 }
 
 /// Bytes that are written as pairs of hexadecimal digits.
@@ -86,6 +93,7 @@ fn main() -> io::Result<()> {
         ["check", path] => answer(&read(path)?) + "\n",
         ["explain", path] => told(&read(path)?) + "\n",
         ["list", path] => check::listing(&read(path)?),
+        ["levels", path] => levels(&read(path)?),
         ["lookup", first, second, template, key_id, key, field] => match asked(template, key_id, key, field) {
             Some(asked) => found(&read(first)?, &read(second)?, &asked) + "\n",
             None => usage(),
@@ -107,8 +115,8 @@ fn main() -> io::Result<()> {
 }
 
 fn usage() -> ! {
-    eprintln!("usage: model check FILE | explain FILE | list FILE | lookup FIRST SECOND TEMPLATE KEY_ID KEY FIELD");
-    eprintln!("       model rescue FILE ROOM");
+    eprintln!("usage: model check FILE | explain FILE | list FILE | levels FILE | rescue FILE ROOM");
+    eprintln!("       model lookup FIRST SECOND TEMPLATE KEY_ID KEY FIELD");
     eprintln!("       model inputs | answers | build-inputs | build-answers | header-calls | header-answers");
     std::process::exit(2);
 }

@@ -4,11 +4,14 @@ use crate::builder;
 use crate::check::listing;
 use crate::explain::Explanation;
 use crate::lookup::Found;
-use crate::reader::{self, call, Call, Open, Place, Reply};
+use crate::reader::{call, Call, Open, Place, Reply};
 use crate::rescue::Rescued;
-use crate::rules::{Had, Unit};
+use crate::rules::{Had, Handed, Unit};
 
-pub type ReaderNumbers = [u64; 20];
+pub type ReaderNumbers = [u64; 25];
+pub type AnswerNumbers = [u64; 10];
+/// How many numbers an entry of the log has.
+pub const ENTRY: usize = 11;
 pub type BuilderNumbers = [u64; 10];
 pub type ExplanationNumbers = [u64; 25];
 pub type FoundNumbers = [u64; 4];
@@ -72,32 +75,35 @@ fn slots(count: u64) -> impl Iterator<Item = usize> {
 pub fn reader_place(numbers: &ReaderNumbers) -> Place {
     let unit = |slot: usize| {
         let at = 2 + 3 * slot;
-        let [state_number, start, end] = match slot {
-            0..=3 => [numbers[at], numbers[at + 1], numbers[at + 2]],
-            _ => [0; 3],
+        let [state_number, start, end, rank] = match slot {
+            0..=3 => [numbers[at], numbers[at + 1], numbers[at + 2], numbers[20 + slot]],
+            _ => [0; 4],
         };
         let (id, had) = state(state_number);
-        Open { id, had, start, end }
+        Open { id, had, start, end, rank }
     };
     Place {
         position: numbers[0],
         open: slots(numbers[1]).map(unit).collect(),
         last: Unit { id: numbers[14], action: numbers[15], start: numbers[16], own: numbers[17], end: numbers[18] },
         fresh: numbers[19] != 0,
+        last_rank: numbers[24],
     }
 }
 
 /// The numbers of a place with at most four open units; zeros in the slots that they leave.
 pub fn of_reader_place(place: &Place) -> ReaderNumbers {
-    let mut numbers = [0; 20];
+    let mut numbers = [0; 25];
     numbers[0] = place.position;
     numbers[1] = place.open.len() as u64;
     for (slot, unit) in slots(numbers[1]).zip(&place.open) {
+        numbers[20 + slot] = unit.rank;
         let unit = [state_number(unit.id, unit.had), unit.start, unit.end];
         numbers[2 + 3 * slot..5 + 3 * slot].copy_from_slice(&unit);
     }
     numbers[14..19].copy_from_slice(&of_unit(place.last));
     numbers[19] = u64::from(place.fresh);
+    numbers[24] = place.last_rank;
     numbers
 }
 
@@ -129,11 +135,12 @@ fn of_unit(unit: Unit) -> [u64; 5] {
     [unit.id, unit.action, unit.start, unit.own, unit.end]
 }
 
-/// Offset, unit and part.
-pub fn answer(reply: &Reply) -> [u64; 8] {
-    let [id, action, start, own, end] = of_unit(reply.unit);
+/// Offset, unit and part; the unit's depth and rank.
+pub fn answer(reply: &Reply) -> AnswerNumbers {
+    let Handed { unit, depth, rank } = reply.handed;
+    let [id, action, start, own, end] = of_unit(unit);
     let (part, length) = reply.part;
-    [reply.offset, id, action, start, own, end, part, length]
+    [reply.offset, id, action, start, own, end, part, length, depth, rank]
 }
 
 /// Offset; how many units are open, and id and start of four; how many ids, and fourteen. Entries that are not used are 0.
@@ -168,23 +175,25 @@ pub fn rescued(rescued: &Rescued) -> RescueNumbers {
 /// The calls that a list of codes may name, from code 1 on.
 pub const CODES: [Call; 5] = [Call::First, Call::Next, Call::Skip, Call::GetStream, Call::Previous];
 
-/// Runs a list of calls and writes the log: number, offset, part and unit of each. Gives the number, and how many
+/// Runs a list of calls and writes the log: number, offset, part and unit of each, with its depth and rank. Gives the number, and how many
 /// entries it wrote.
 pub fn replay(stream: &[u8], codes: &[u8], log: &mut [u64]) -> (u64, u64) {
-    if log.len() / 9 < codes.len() {
+    if log.len() / ENTRY < codes.len() {
         return (12, 0);
     }
     let mut place = Place::default();
     let mut entries = 0;
-    for (code, entry) in codes.iter().zip(log.chunks_exact_mut(9)) {
+    for (code, entry) in codes.iter().zip(log.chunks_exact_mut(ENTRY)) {
         let known = usize::from(*code).checked_sub(1);
         let Some(code) = known.and_then(|index| CODES.get(index)) else {
             break;
         };
         let reply = call(*code, stream, &place);
+        let Handed { unit, depth, rank } = reply.handed;
         let head = [reply.number, reply.offset, reply.part.0, reply.part.1];
         entry[..4].copy_from_slice(&head);
-        entry[4..].copy_from_slice(&of_unit(reply.unit));
+        entry[4..9].copy_from_slice(&of_unit(unit));
+        entry[9..].copy_from_slice(&[depth, rank]);
         place = reply.place;
         entries += 1;
     }
@@ -201,10 +210,4 @@ pub fn listed(stream: &[u8], room: &mut [u8]) -> (u64, u64) {
             (0, text.len() as u64)
         }
     }
-}
-
-/// A reader call on a place in numbers: number, answer and new place.
-pub fn reader_call(which: Call, stream: &[u8], numbers: &ReaderNumbers) -> (u64, [u64; 8], reader::Place) {
-    let reply = call(which, stream, &reader_place(numbers));
-    (reply.number, answer(&reply), reply.place)
 }

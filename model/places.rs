@@ -1,5 +1,6 @@
 //! Hand-made places: real ones with fields altered, made ones that fit or nearly fit, and any numbers at all.
 
+use crate::ranked;
 use cdf_model::builder;
 use cdf_model::numbers::{of_builder_place, of_reader_place, BuilderNumbers, ReaderNumbers};
 use cdf_model::random::Random;
@@ -47,8 +48,9 @@ fn other_count(old: u64, random: &mut Random) -> u64 {
 fn alter_reader(numbers: &mut ReaderNumbers, n: u64, random: &mut Random) {
     let mut others = numbers.to_vec();
     others.push(n);
-    let slot = 2 + 3 * random.below(numbers[1].clamp(1, 4) as usize);
-    let field = match random.below(12) {
+    let reached = random.below(numbers[1].clamp(1, 4) as usize);
+    let slot = 2 + 3 * reached;
+    let field = match random.below(16) {
         0 | 1 => 0,
         2 => 1,
         3 | 4 => slot,
@@ -56,6 +58,8 @@ fn alter_reader(numbers: &mut ReaderNumbers, n: u64, random: &mut Random) {
         6 => slot + 2,
         7 => 19,
         8 => 14,
+        9 | 10 => 20 + reached,
+        11 | 12 => 24,
         _ => random.between(15, 18),
     };
     numbers[field] = match field {
@@ -63,6 +67,7 @@ fn alter_reader(numbers: &mut ReaderNumbers, n: u64, random: &mut Random) {
         2 | 5 | 8 | 11 => other_state(numbers[field], random),
         14 => random.pick(&[0, 1, 2, 4, 5, 9, 13, 14, 15, 256 + 4, u64::MAX]),
         19 => random.pick(&[0, 0, 1, 1, 2, 256, u64::MAX]),
+        20..=24 => ranked::other(numbers[field], numbers[0], random),
         _ => near(numbers[field], &others, random),
     };
 }
@@ -90,7 +95,7 @@ fn made_reader(n: u64, random: &mut Random) -> ReaderNumbers {
             end -= random.below(8) as u64 % (end - start).max(1);
         }
         let had = random.pick(possible(id));
-        open.push(Open { id, had, start, end });
+        open.push(Open { id, had, start, end, rank: 0 });
         if end < start + 12 {
             break;
         }
@@ -100,18 +105,21 @@ fn made_reader(n: u64, random: &mut Random) -> ReaderNumbers {
     let position = random.pick(&[low, end, within, within]);
     let fresh = random.one_in(2);
     let innermost = open.last_mut().unwrap();
+    let innermost_start = innermost.start;
     let last = if fresh {
         innermost.had = Had::Nothing;
         let (id, action) = (innermost.id, random.below(6) as u64);
         Unit { id, action, start, own: position, end }
     } else {
-        let start = random.any() % n.max(1);
+        let start = if random.one_in(3) { innermost_start } else { random.any() % n.max(1) };
         let own = start + random.pick(&[6, 6, 9, 12]);
         let end = random.pick(&[own, own + 3, n]);
         let (id, action) = (random.below(16) as u64, random.below(6) as u64);
         Unit { id, action, start, own, end }
     };
-    of_reader_place(&Place { position, open, last, fresh })
+    let mut numbers = of_reader_place(&Place { position, open, last, last_rank: 0, fresh });
+    ranked::put(&mut numbers, random);
+    numbers
 }
 
 /// A number of a place that is given no thought.
@@ -128,7 +136,7 @@ fn anything(random: &mut Random) -> u64 {
 pub fn reader(real: &[ReaderNumbers], n: u64, random: &mut Random) -> (&'static str, ReaderNumbers) {
     let sort = random.below(10);
     if sort == 0 {
-        let mut numbers = [0; 20].map(|_: u64| anything(random));
+        let mut numbers = [0; 25].map(|_: u64| anything(random));
         if random.one_in(2) {
             numbers[1] = random.below(6) as u64;
         }
@@ -140,6 +148,9 @@ pub fn reader(real: &[ReaderNumbers], n: u64, random: &mut Random) -> (&'static 
     };
     let times = random.pick(&[0, 1, 1, 1, 1, 2, 3]);
     (0..times).for_each(|_| alter_reader(&mut numbers, n, random));
+    if random.one_in(3) {
+        ranked::fill_free(&mut numbers, random);
+    }
     (kind, numbers)
 }
 

@@ -1,6 +1,8 @@
-//! The reader with places (document 01, Check and reader).
+//! The reader with places (document 01, Check and reader; document 02, g).
 
-use crate::rules::{admits_kind, after, complete, is_group, is_root, opens, possible, unit_at, Around, Had, Unit};
+use crate::rules::{
+    admits_kind, after, complete, is_group, is_root, opens, possible, unit_at, Around, Had, Handed, Unit,
+};
 
 /// An open unit. The id is 0 where a caller's numbers tell none.
 #[derive(Clone, Copy, PartialEq, Debug)]
@@ -9,6 +11,7 @@ pub struct Open {
     pub had: Had,
     pub start: u64,
     pub end: u64,
+    pub rank: u64,
 }
 
 #[derive(Clone, Default, PartialEq, Debug)]
@@ -17,6 +20,7 @@ pub struct Place {
     /// From the root inwards.
     pub open: Vec<Open>,
     pub last: Unit,
+    pub last_rank: u64,
     /// Whether the last unit may still be skipped.
     pub fresh: bool,
 }
@@ -34,14 +38,14 @@ pub enum Call {
 pub struct Reply {
     pub number: u64,
     pub offset: u64,
-    pub unit: Unit,
+    pub handed: Handed,
     /// Start and length.
     pub part: (u64, u64),
     pub place: Place,
 }
 
 /// The clauses of the rule by which a place fits, in its order.
-pub const CLAUSES: [&str; 18] = [
+pub const CLAUSES: [&str; 21] = [
     "from one to five open units",
     "outermost unit: kind of a root",
     "other units: a parent of a kind admitted around it",
@@ -60,6 +64,9 @@ pub const CLAUSES: [&str; 18] = [
     "skippable: the last end is the innermost's",
     "skippable: it has had nothing",
     "skippable: the position is its own end",
+    "rank of the innermost unit: at most a sixth of the position",
+    "ranks of the other units: at most a sixth of the position",
+    "rank of the last unit: at most a sixth of the position",
 ];
 
 /// Whether `more` is at least 6 after `start`, in numbers without a bound.
@@ -68,6 +75,17 @@ pub fn six_on(start: u64, more: u64) -> bool {
 }
 
 impl Place {
+    /// Whether a rank is at most a sixth of the position, in numbers without a bound.
+    pub fn bears(&self, rank: u64) -> bool {
+        u128::from(rank) * 6 <= u128::from(self.position)
+    }
+
+    /// The last unit with its depth and rank. It is the innermost open one if it starts where that does.
+    fn handed(&self) -> Handed {
+        let inside = self.open.last().is_none_or(|innermost| innermost.start != self.last.start);
+        Handed { unit: self.last, depth: self.open.len() as u64 + u64::from(inside), rank: self.last_rank }
+    }
+
     /// The clauses that do not hold for n bytes, one bit each.
     pub fn missed(&self, n: u64) -> u32 {
         let (open, last) = (&self.open, &self.last);
@@ -94,6 +112,9 @@ impl Place {
             !self.fresh || last.end == innermost.end,
             !self.fresh || innermost.had == Had::Nothing,
             !self.fresh || self.position == last.own,
+            self.bears(innermost.rank),
+            open[..open.len() - 1].iter().all(|outer| self.bears(outer.rank)),
+            self.bears(self.last_rank),
         ];
         let bits = holds.iter().zip(0..).filter(|(holds, _)| !**holds);
         bits.map(|(_, bit)| 1 << bit).sum()
@@ -105,35 +126,40 @@ impl Place {
 }
 
 fn refuse(number: u64, offset: u64, place: Place) -> Reply {
-    Reply { number, offset, unit: Unit::default(), part: (0, 0), place }
+    Reply { number, offset, handed: Handed::default(), part: (0, 0), place }
 }
 
 /// Opens a unit that has been found if it admits others, and hands it out.
-fn hand_out(mut place: Place, unit: Unit) -> Reply {
+fn hand_out(mut place: Place, unit: Unit, rank: u64) -> Reply {
     place.fresh = opens(unit.id);
     place.position = unit.end;
     if place.fresh {
         place.position = unit.own;
-        place.open.push(Open { id: unit.id, had: Had::Nothing, start: unit.start, end: unit.end });
+        place.open.push(Open { id: unit.id, had: Had::Nothing, start: unit.start, end: unit.end, rank });
     }
-    place.last = unit;
-    Reply { unit, ..refuse(0, 0, place) }
+    (place.last, place.last_rank) = (unit, rank);
+    Reply { handed: place.handed(), ..refuse(0, 0, place) }
 }
 
 fn first(stream: &[u8]) -> Reply {
     match unit_at(stream, 0, stream.len() as u64, Around::Root) {
-        Ok(root) => hand_out(Place::default(), root),
+        Ok(root) => hand_out(Place::default(), root, 0),
         Err(refusal) => refuse(refusal.number, refusal.offset, Place::default()),
     }
 }
 
 fn next(stream: &[u8], place: &Place) -> Reply {
     let mut left = place.clone();
+    // While nothing has closed: the last unit is what holds the next one, and that is its first, or it stands right before it.
+    let holds = place.open.last().is_some_and(|innermost| innermost.start == place.last.start);
+    let mut rank = if holds { 0 } else { place.last_rank + 1 };
     while let Some(innermost) = left.open.last().copied() {
         if innermost.end == place.position {
             if !complete(innermost.id, innermost.had) {
                 return refuse(10, innermost.start, place.clone());
             }
+            // The unit that closes last stands right before the next one.
+            rank = innermost.rank + 1;
             left.open.pop();
             continue;
         }
@@ -144,7 +170,7 @@ fn next(stream: &[u8], place: &Place) -> Reply {
             Ok(unit) => {
                 let had = after(innermost.id, innermost.had, unit.id);
                 left.open.last_mut().unwrap().had = had.unwrap();
-                hand_out(left, unit)
+                hand_out(left, unit, rank)
             }
         };
     }
@@ -176,6 +202,6 @@ pub fn call(call: Call, stream: &[u8], place: &Place) -> Reply {
         Call::Next => next(stream, place),
         Call::Skip => refuse(0, 0, skipped(place)),
         Call::GetStream => Reply { part: (last.start, last.end - last.start), ..refuse(0, 0, skipped(place)) },
-        Call::Previous => Reply { unit: last, ..refuse(0, 0, place.clone()) },
+        Call::Previous => Reply { handed: place.handed(), ..refuse(0, 0, place.clone()) },
     }
 }

@@ -3,12 +3,12 @@
 
 use crate::functions::Function;
 use crate::tally::Tally;
-use crate::{archive, consistency, keys, places, pointed};
+use crate::{archive, consistency, keys, places, pointed, ranked};
 use cdf_model::check::{check, listing};
 use cdf_model::explain::explain;
-use cdf_model::numbers::{self, reader_place, ReaderNumbers, CODES};
+use cdf_model::numbers::{self, reader_place, ReaderNumbers, CODES, ENTRY};
 use cdf_model::random::Random;
-use cdf_model::reader::Call;
+use cdf_model::reader::{self, Call};
 use cdf_model::rules::Refusal;
 use cdf_model::streams::Tree;
 
@@ -54,12 +54,14 @@ pub fn compare_explain(tally: &mut Tally, stream: &[u8]) {
 pub fn compare_call(tally: &mut Tally, call: Call, stream: &[u8], place: &mut ReaderNumbers) -> u64 {
     let before = *place;
     let (number, answer) = archive::reader(call, stream, place);
-    let (owed_number, owed_answer, owed_place) = numbers::reader_call(call, stream, &before);
+    let given = reader_place(&before);
+    let reply = reader::call(call, stream, &given);
+    let (owed_number, owed_answer, owed_place) = (reply.number, numbers::answer(&reply), &reply.place);
     let place_is_owed = match (call, owed_number) {
-        (Call::AbnormalEnd, _) => *place == [0; 20],
+        (Call::AbnormalEnd, _) => *place == [0; 25],
         (Call::Previous, _) => *place == before,
-        (_, 0) => reader_place(place) == owed_place && place[19] == u64::from(owed_place.fresh),
-        (Call::First, _) => *place == [0; 20],
+        (_, 0) => reader_place(place) == *owed_place && place[19] == u64::from(owed_place.fresh),
+        (Call::First, _) => *place == [0; 25],
         _ => *place == before,
     };
     if (number, answer) != (owed_number, owed_answer) || !place_is_owed {
@@ -69,8 +71,11 @@ pub fn compare_call(tally: &mut Tally, call: Call, stream: &[u8], place: &mut Re
         tally.differ(&format!("{call:?} of the reader"), &given, &one, &other);
     }
     tally.met(Function::from(call), number);
-    if (call, number) == (Call::Next, 7) {
-        tally.too_many(Function::Next, &keys::of_reader(stream, &reader_place(&before)));
+    match (call, number) {
+        (Call::Next, 7) => tally.too_many(Function::Next, &keys::of_reader(stream, &given)),
+        (Call::Next, 0) => tally.ranked(&ranked::of_next(&given, &reply)),
+        (Call::Previous, 0) => tally.ranked(&ranked::of_previous(&given)),
+        _ => {}
     }
     number
 }
@@ -100,10 +105,10 @@ fn call_list(units: usize, random: &mut Random) -> Vec<u8> {
 
 /// Runs the list call by call, and gives the places that were met.
 fn compare_list(tally: &mut Tally, stream: &[u8], codes: &[u8], random: &mut Random) -> Vec<ReaderNumbers> {
-    let mut place = [0; 20];
+    let mut place = [0; 25];
     if random.one_in(2) {
         // Every place without an open unit is empty, and a start is given no place.
-        place = [0; 20].map(|_: u64| random.any());
+        place = [0; 25].map(|_: u64| random.any());
         place[1] = 0;
     }
     let mut met = vec![place];
@@ -124,7 +129,7 @@ fn compare_list(tally: &mut Tally, stream: &[u8], codes: &[u8], random: &mut Ran
 }
 
 /// Room behind what is lent, which no call may write.
-const BEYOND: usize = 9;
+const BEYOND: usize = 12;
 
 fn compare_replay(tally: &mut Tally, stream: &[u8], codes: &[u8], random: &mut Random) {
     let mut codes = codes.to_vec();
@@ -133,10 +138,10 @@ fn compare_replay(tally: &mut Tally, stream: &[u8], codes: &[u8], random: &mut R
         codes.insert(at, random.pick(&[0, 6, 7, 255, 128 + 2]));
     }
     let room = match random.below(12) {
-        0 => 9 * codes.len() - 1,
-        1 => random.below(9 * codes.len() + 1),
-        2 => 9 * codes.len() + random.below(30),
-        _ => 9 * codes.len(),
+        0 => ENTRY * codes.len() - 1,
+        1 => random.below(ENTRY * codes.len() + 1),
+        2 => ENTRY * codes.len() + random.below(30),
+        _ => ENTRY * codes.len(),
     };
     let mut log = vec![7_777_777; room + BEYOND];
     let mut owed_log = log.clone();
@@ -177,6 +182,7 @@ fn compare_hand_made(tally: &mut Tally, stream: &[u8], met: &[ReaderNumbers], ra
     let (kind, made) = places::reader(met, n, random);
     tally.count(kind);
     tally.reader_place(&reader_place(&made), n);
+    tally.ranked(&ranked::of_place(&made, n));
     for call in [Call::Next, Call::Skip, Call::GetStream, Call::Previous] {
         let mut place = made;
         let number = compare_call(tally, call, stream, &mut place);

@@ -67,11 +67,11 @@ fn standing(bytes: &[u8], at: usize) -> Option<&[u8]> {
 /// The end of the unit at the offset if the reader reads it whole, from a place in an E/R group that has had units. A place
 /// says nothing of the bytes before it.
 pub fn read(bytes: &[u8], at: usize) -> Option<usize> {
-    let group = Open { id: 4, had: Had::Units, start: 0, end: bytes.len() as u64 };
+    let group = Open { id: 4, had: Had::Units, start: 0, end: bytes.len() as u64, rank: 0 };
     let last = Unit { id: 4, action: 0, start: 0, own: PREFIX as u64, end: PREFIX as u64 };
-    let place = Place { position: at as u64, open: vec![group], last, fresh: false };
+    let place = Place { position: at as u64, open: vec![group], last, last_rank: 0, fresh: false };
     let mut reply = call(Call::Next, bytes, &place);
-    let end = reply.unit.end;
+    let end = reply.handed.unit.end;
     while reply.number == 0 && reply.place.position < end {
         reply = call(Call::Next, bytes, &reply.place);
     }

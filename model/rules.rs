@@ -175,6 +175,15 @@ pub struct Unit {
     pub end: u64,
 }
 
+/// A unit as it is handed out (document 02, g): with its depth, 1 for the root, and its rank, 0 for the first of its siblings.
+/// Zeros where none is.
+#[derive(Clone, Copy, Default, PartialEq, Debug)]
+pub struct Handed {
+    pub unit: Unit,
+    pub depth: u64,
+    pub rank: u64,
+}
+
 /// The offset is where the unit stands or would stand. With 9 it is that of the byte to blame, with 10 where the incomplete
 /// unit begins.
 #[derive(Clone, Copy, PartialEq, Debug)]

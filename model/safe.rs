@@ -10,7 +10,7 @@ use cdf_model::lookup::{lookup, Asked};
 use cdf_model::random::Random;
 use cdf_model::reader::{self, Call, Place};
 use cdf_model::rescue::Rescued;
-use cdf_model::rules::Unit;
+use cdf_model::rules::{Handed, Unit};
 use cdf_model::streams::{damage_data, grow, request};
 
 fn same<T: PartialEq + std::fmt::Debug>(tally: &mut Tally, what: &str, given: &dyn Fn() -> String, one: T, other: T) {
@@ -24,9 +24,11 @@ fn numbers(refusal: &cdf::Refusal) -> (u64, u64) {
     (refusal.number, refusal.offset.unwrap_or(0) as u64)
 }
 
-fn of_unit(unit: &cdf::Unit) -> Unit {
-    let [start, own, end] = [unit.start(), unit.own_end(), unit.end()].map(|at| at as u64);
-    Unit { id: unit.id().number(), action: unit.action().number(), start, own, end }
+fn of_unit(unit: &cdf::Unit) -> Handed {
+    let [start, own, end, depth, rank] =
+        [unit.start(), unit.own_end(), unit.end(), unit.depth(), unit.rank()].map(|at| at as u64);
+    let unit = Unit { id: unit.id().number(), action: unit.action().number(), start, own, end };
+    Handed { unit, depth, rank }
 }
 
 pub fn compare(tally: &mut Tally, stream: &[u8]) {
@@ -104,14 +106,14 @@ fn read(tally: &mut Tally, stream: &[u8], random: &mut Random) {
             }
             Call::Previous => {
                 let said = reader.previous().map(|unit| of_unit(&unit)).map_err(|refusal| numbers(&refusal));
-                same(tally, "previous", &given, said, if owed.number == 0 { Ok(owed.unit) } else { Err(refused) });
+                same(tally, "previous", &given, said, if owed.number == 0 { Ok(owed.handed) } else { Err(refused) });
             }
             _ => {
                 first = false;
                 let said =
                     reader.next().map(|unit| unit.map(|unit| of_unit(&unit)).map_err(|refusal| numbers(&refusal)));
                 let due = match owed.number {
-                    0 => Some(Ok(owed.unit)),
+                    0 => Some(Ok(owed.handed)),
                     1 => None,
                     _ => Some(Err(refused)),
                 };

@@ -4,6 +4,7 @@ use crate::functions::{Function, BUILDER, CAN_GIVE, READER};
 use crate::keys::TOO_MANY;
 use crate::looked_up::LOOKED_UP;
 use crate::pointed::{Byte, BYTES};
+use crate::ranked::RANKED;
 use crate::rescued::RESCUED;
 use cdf_model::explain::Explanation;
 use cdf_model::rules::Had;
@@ -59,6 +60,7 @@ pub struct Tally {
     temporary: [u64; TEMPORARY.len()],
     looked_up: [u64; LOOKED_UP.len()],
     rescued: [u64; RESCUED.len()],
+    ranked: [u64; RANKED.len()],
 }
 
 impl Tally {
@@ -76,6 +78,7 @@ impl Tally {
             temporary: [0; TEMPORARY.len()],
             looked_up: [0; LOOKED_UP.len()],
             rescued: [0; RESCUED.len()],
+            ranked: [0; RANKED.len()],
         }
     }
 
@@ -161,6 +164,11 @@ impl Tally {
         count_each(&RESCUED, &mut self.rescued, kinds);
     }
 
+    /// A place, a PREVIOUS or a NEXT that was all these of `RANKED`.
+    pub fn ranked(&mut self, kinds: &[&str]) {
+        count_each(&RANKED, &mut self.ranked, kinds);
+    }
+
     fn calls(&self, of: std::ops::Range<usize>) -> u64 {
         self.met[of].iter().flatten().sum()
     }
@@ -181,8 +189,8 @@ impl Tally {
     }
 
     /// Prints the figures. False if a number was not met that the function can give, or met that it cannot, or if a clause
-    /// was never missed alone, a kind of refusal not explained, a kind of byte not named, a kind of key not refused, or a
-    /// kind of lookup or of rescue not made.
+    /// was never missed alone, a kind of refusal not explained, a kind of byte not named, a kind of key not refused, a kind
+    /// of lookup or of rescue not made, or a kind of rank not told.
     pub fn report(&self) -> bool {
         let mut good = true;
         println!("compared:");
@@ -224,6 +232,7 @@ impl Tally {
         good &= each_met("hand-made places that fit, and their innermost unit", &TEMPORARY, &self.temporary, &[]);
         good &= each_met("lookups", &LOOKED_UP, &self.looked_up, &[]);
         good &= each_met("rescues", &RESCUED, &self.rescued, &[]);
+        good &= each_met("depths and ranks", &RANKED, &self.ranked, &[]);
         good
     }
 }

@@ -1,7 +1,8 @@
-//! A tree of units, as it is told to a builder, and its bytes.
+//! A tree of units, whatever they say: its bytes, its units in their order, and where each stands.
 
 use crate::builder::Request;
 use crate::rules::MARK;
+
 #[derive(Clone)]
 pub struct Tree {
     pub unit: Request,
@@ -30,6 +31,12 @@ impl Tree {
     pub fn requests(&self) -> Vec<Request> {
         let nested = self.nested.iter().flat_map(Tree::requests);
         std::iter::once(self.unit.clone()).chain(nested).collect()
+    }
+
+    /// Depth and rank of each, in the same order, where it stands so deep and is of this rank.
+    pub fn levels(&self, depth: u64, rank: u64) -> Vec<(u64, u64)> {
+        let nested = self.nested.iter().zip(0..).flat_map(|(tree, rank)| tree.levels(depth + 1, rank));
+        std::iter::once((depth, rank)).chain(nested).collect()
     }
 
     pub fn size(&self) -> usize {

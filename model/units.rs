@@ -2,7 +2,7 @@
 //! and what a unit has had is looked up in the list each time.
 
 use crate::check::{follows, least};
-use crate::rules::{opens, unit_at, Around, Refusal, Unit};
+use crate::rules::{opens, unit_at, Around, Handed, Refusal, Unit};
 
 pub struct List {
     pub units: Vec<Unit>,
@@ -73,4 +73,19 @@ pub fn had(units: &[Unit], index: usize) -> Vec<u64> {
 /// How deep a unit lies, by the units listed before it.
 pub fn depth(before: &[Unit], unit: &Unit) -> usize {
     1 + before.iter().filter(|outer| opens(outer.id) && outer.end > unit.start).count()
+}
+
+/// How many siblings stand before a unit, by the units listed before it: those that the innermost one around it has had.
+pub fn rank(before: &[Unit], unit: &Unit) -> usize {
+    let around = before.iter().rposition(|outer| opens(outer.id) && outer.end > unit.start);
+    around.map_or(0, |index| had(before, index).len())
+}
+
+/// The listed units with depth and rank (document 02, g).
+pub fn handed(units: &[Unit]) -> Vec<Handed> {
+    let one = |(index, unit): (usize, &Unit)| {
+        let before = &units[..index];
+        Handed { unit: *unit, depth: depth(before, unit) as u64, rank: rank(before, unit) as u64 }
+    };
+    units.iter().enumerate().map(one).collect()
 }

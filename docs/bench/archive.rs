@@ -1,11 +1,15 @@
 //! The proved functions: those of the joined archive, a second version of them where `run` links one, and `cdf_walk`.
 
 /// Position; how many units are open; state, start and end of the innermost, then of the others from the root
-/// inwards; id, action, start, own end and end of the last unit; whether it may still be skipped.
-pub type Place = [u64; 20];
+/// inwards; id, action, start, own end and end of the last unit; whether it may still be skipped; the ranks of the open
+/// units in the same order, and of the last unit.
+pub type Place = [u64; 25];
 pub const LAST: std::ops::Range<usize> = 14..19;
-/// Offset; id, action, start, own end and end of the unit; start and length of the part.
-pub type Answer = [u64; 8];
+pub const LAST_RANK: usize = 24;
+/// Offset; id, action, start, own end and end of the unit; start and length of the part; depth and rank of the unit.
+pub type Answer = [u64; 10];
+/// How many numbers a call has in the log.
+pub const ENTRY: usize = 11;
 /// Offset; how many units are open; id and start of up to four, the root first; how many ids the innermost admits; up to
 /// fourteen ids, rising. Zeros beyond, and all zeros for an accepted stream.
 pub type Explanation = [u64; 25];

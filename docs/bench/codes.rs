@@ -1,6 +1,6 @@
 //! The codes that are timed, by part: the first two of a part are plain Rust, inlined and out of line.
 
-use crate::archive::{proved_walk, Archive, Explanation, Found, Now, Rescued};
+use crate::archive::{proved_walk, Archive, Explanation, Found, Now, Rescued, ENTRY};
 use crate::cases::{Case, Second};
 use crate::plain::{check, explain, replay, walk, INLINED, OUT_OF_LINE};
 use crate::plain_lookup::lookup;
@@ -27,7 +27,7 @@ impl Scratch {
             explanation: [0; 25],
             found: [0; 4],
             rescued: [0; 130],
-            log: vec![0; 9 * 11_000],
+            log: vec![0; ENTRY * 11_000],
             buffer: vec![0; 65_535],
             text: vec![0; LISTING_ROOM],
             plain_text: Vec::with_capacity(LISTING_ROOM),

@@ -1,24 +1,26 @@
 //! That the proved code gives plain Rust's answers: nothing is timed before.
 
-use crate::archive::{proved_walk, Archive, Explanation, Now, LAST};
+use crate::archive::{proved_walk, Archive, Explanation, Now, ENTRY, LAST, LAST_RANK};
 use crate::cases::{Case, Second};
 use crate::codes::{plain_build, proved_build, Scratch, LISTING_ROOM};
 use crate::plain::{check, explain, fold_stop, fold_unit, replay, walk, Reader, INLINED, OUT_OF_LINE};
 use crate::plain_write::{listing, Builder};
 use crate::random::Random;
-use crate::rules::{Stop, Unit};
+use crate::rules::{Handed, Stop, Unit};
 use crate::streams::{damaged, lost, one_field_more, samples, Sample, Set};
 
-/// What plain Rust says of some bytes: the units handed out, what comes after the last, and why it is a refusal.
+/// What plain Rust says of some bytes: the units handed out, with depth and rank too, what comes after the last, and why it
+/// is a refusal.
 pub struct Expected {
     pub units: Vec<Unit>,
+    handed: Vec<Handed>,
     stop: Stop,
     explanation: Explanation,
 }
 
 impl Expected {
     fn fold(&self) -> u64 {
-        fold_stop(self.units.iter().fold(0, fold_unit), &self.stop)
+        fold_stop(self.handed.iter().fold(0, fold_unit), &self.stop)
     }
 
     /// The check's number, and its count or offset.
@@ -31,14 +33,14 @@ impl Expected {
 }
 
 pub fn read(bytes: &[u8]) -> Expected {
-    let mut units = Vec::new();
+    let mut handed = Vec::new();
     let stop = match Reader::first(bytes) {
         Err(stop) => stop,
         Ok((mut reader, root)) => {
-            units.push(root);
+            handed.push(root);
             loop {
                 match reader.next() {
-                    Ok(unit) => units.push(unit),
+                    Ok(next) => handed.push(next),
                     Err(stop) => break stop,
                 }
             }
@@ -46,7 +48,7 @@ pub fn read(bytes: &[u8]) -> Expected {
     };
     let mut explanation = [u64::MAX; 25];
     explain::<INLINED>(bytes, &mut explanation);
-    Expected { units, stop, explanation }
+    Expected { units: handed.iter().map(|handed| handed.unit).collect(), handed, stop, explanation }
 }
 
 /// A stream that is to be accepted, as a case to time.
@@ -118,32 +120,35 @@ fn assert_explain<A: Archive>(label: &str, bytes: &[u8], expected: &Expected) {
 }
 
 fn assert_reader<A: Archive>(label: &str, bytes: &[u8], expected: &Expected) {
-    let mut place = [u64::MAX; 20];
-    let mut answer = [u64::MAX; 8];
+    let mut place = [u64::MAX; 25];
+    let mut answer = [u64::MAX; 10];
     let mut number = A::first(bytes, &mut place, &mut answer);
-    for unit in &expected.units {
+    for handed in &expected.handed {
+        let Handed { unit, depth, rank } = handed;
         let Unit { id, action, start, own, end } = *unit;
         let words = [id as u64, action as u64, start as u64, own as u64, end as u64];
         assert_eq!(number, 0, "number on {label}, unit {unit:?}");
         assert_eq!(answer[0], 0, "offset on {label}, unit {unit:?}");
         assert_eq!(answer[1..6], words, "unit on {label}");
-        assert_eq!(answer[6..], [0, 0], "part on {label}, unit {unit:?}");
+        assert_eq!(answer[6..8], [0, 0], "part on {label}, unit {unit:?}");
+        assert_eq!(answer[8..], [*depth as u64, *rank as u64], "depth and rank on {label}, unit {unit:?}");
         assert_eq!(place[LAST], words, "last unit of the place on {label}");
+        assert_eq!(place[LAST_RANK], *rank as u64, "its rank in the place on {label}");
         let given = place;
-        answer = [u64::MAX; 8];
+        answer = [u64::MAX; 10];
         number = A::next(bytes, &mut place, &mut answer);
         assert!(number == 0 || place == given, "a refusal changed the place on {label}, after {unit:?}");
     }
     let Stop { number: stop, offset } = expected.stop;
     assert_eq!((number, answer[0]), (stop as u64, offset as u64), "number and offset on {label}");
-    assert_eq!(answer[1..], [0; 7], "unit and part beside a refusal on {label}");
+    assert_eq!(answer[1..], [0; 9], "unit and part beside a refusal on {label}");
     assert!(!expected.units.is_empty() || place[1] == 0, "the place of a refused start on {label}");
 }
 
 /// A start and one NEXT more than there are units, so that the last answer is met twice.
 fn assert_replay<A: Archive>(label: &str, case: &Case) {
     let calls = [&case.calls[..], &[2]].concat();
-    let mut logs = [0, 1, 2].map(|_| vec![u64::MAX; 9 * calls.len() + 5]);
+    let mut logs = [0, 1, 2].map(|_| vec![u64::MAX; ENTRY * calls.len() + 5]);
     let [log, inlined, out_of_line] = &mut logs;
     let mut answer = [u64::MAX];
     assert_eq!(A::replay(&case.stream, &calls, log, &mut answer), 0, "cdf_replay on {label}");

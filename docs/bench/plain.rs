@@ -1,8 +1,9 @@
 //! A plain check, reader, explanation and replay: what the proved ones are measured against. Their state is mutable and
 //! their own, so no call tests it again. The proved NEXT must: its place is the caller's.
 
+use crate::archive::ENTRY;
 use crate::rules::{
-    action_allowed, before_wrong, opens, own_data, prefix, root, root_kind, Prefix, Progress, Stop, Unit,
+    action_allowed, before_wrong, opens, own_data, prefix, root, root_kind, Handed, Prefix, Progress, Stop, Unit,
 };
 
 struct Open {
@@ -85,14 +86,14 @@ pub struct Reader<'a> {
 }
 
 impl<'a> Reader<'a> {
-    pub fn first(stream: &'a [u8]) -> Result<(Reader<'a>, Unit), Stop> {
+    pub fn first(stream: &'a [u8]) -> Result<(Reader<'a>, Handed), Stop> {
         let unit = root(stream)?;
         let open = vec![Open::new(&unit)];
-        Ok((Reader { stream, position: unit.own, open }, unit))
+        Ok((Reader { stream, position: unit.own, open }, Handed { unit, depth: 1, rank: 0 }))
     }
 
     #[inline(always)]
-    pub fn next(&mut self) -> Result<Unit, Stop> {
+    pub fn next(&mut self) -> Result<Handed, Stop> {
         while let Some(open) = self.open.last() {
             if open.end != self.position {
                 break;
@@ -102,9 +103,11 @@ impl<'a> Reader<'a> {
             }
             self.open.pop();
         }
+        let depth = self.open.len() + 1;
         let Some(open) = self.open.last_mut() else {
             return Err(Stop { number: 1, offset: 0 });
         };
+        let rank = open.progress.nested();
         let unit = nested(self.stream, self.position, open)?;
         if opens(unit.id) {
             self.open.push(Open::new(&unit));
@@ -112,29 +115,26 @@ impl<'a> Reader<'a> {
         } else {
             self.position = unit.end;
         }
-        Ok(unit)
-    }
-
-    /// How deep the unit is that was handed out last, 1 for the root.
-    #[inline(always)]
-    pub fn depth(&self, unit: &Unit) -> usize {
-        self.open.len() + usize::from(!opens(unit.id))
+        Ok(Handed { unit, depth, rank })
     }
 
     #[inline(never)]
-    pub fn next_out_of_line(&mut self) -> Result<Unit, Stop> {
+    pub fn next_out_of_line(&mut self) -> Result<Handed, Stop> {
         self.next()
     }
 }
 
-/// The fold of a walk takes in every unit handed out, and then what stopped it.
-pub fn fold_unit(fold: u64, unit: &Unit) -> u64 {
+/// The fold of a walk takes in every unit handed out, with depth and rank, and then what stopped it.
+pub fn fold_unit(fold: u64, handed: &Handed) -> u64 {
+    let Handed { unit, depth, rank } = handed;
     fold.rotate_left(5)
         ^ unit.start as u64
         ^ (unit.own as u64) << 16
         ^ (unit.end as u64) << 32
         ^ (unit.id as u64) << 48
         ^ (unit.action as u64) << 56
+        ^ (*depth as u64) << 52
+        ^ (*rank as u64) << 8
 }
 
 pub fn fold_stop(fold: u64, stop: &Stop) -> u64 {
@@ -150,7 +150,7 @@ pub fn walk<const CALLS: bool>(stream: &[u8]) -> u64 {
     let mut fold = fold_unit(0, &root);
     loop {
         match if CALLS { reader.next_out_of_line() } else { reader.next() } {
-            Ok(unit) => fold = fold_unit(fold, &unit),
+            Ok(handed) => fold = fold_unit(fold, &handed),
             Err(stop) => return fold_stop(fold, &stop),
         }
     }
@@ -188,25 +188,26 @@ pub fn explain<const CALLS: bool>(stream: &[u8], answer: &mut [u64; 25]) -> u64 
     stop.number as u64
 }
 
-fn entry(answer: &Result<Unit, Stop>) -> [u64; 9] {
-    match answer {
-        Ok(Unit { id, action, start, own, end }) => {
-            [0, 0, 0, 0, *id as u64, *action as u64, *start as u64, *own as u64, *end as u64]
+fn entry(answer: &Result<Handed, Stop>) -> [u64; ENTRY] {
+    match *answer {
+        Ok(Handed { unit: Unit { id, action, start, own, end }, depth, rank }) => {
+            let [start, own, end, depth, rank] = [start, own, end, depth, rank].map(|number| number as u64);
+            [0, 0, 0, 0, id as u64, action as u64, start, own, end, depth, rank]
         }
-        Err(Stop { number, offset }) => [*number as u64, *offset as u64, 0, 0, 0, 0, 0, 0, 0],
+        Err(Stop { number, offset }) => [number as u64, offset as u64, 0, 0, 0, 0, 0, 0, 0, 0, 0],
     }
 }
 
-/// A run of starts (1) and NEXTs (2) into a log of nine numbers a call; another code ends it. How many were made.
+/// A run of starts (1) and NEXTs (2) into a log of eleven numbers a call; another code ends it. How many were made.
 #[inline(always)]
 pub fn replay<const CALLS: bool>(stream: &[u8], calls: &[u8], log: &mut [u64]) -> usize {
     let mut reader = None;
-    for (made, (call, into)) in calls.iter().zip(log.chunks_exact_mut(9)).enumerate() {
+    for (made, (call, into)) in calls.iter().zip(log.chunks_exact_mut(ENTRY)).enumerate() {
         let answer = match (call, &mut reader) {
             (1, _) => match Reader::first(stream) {
-                Ok((begun, unit)) => {
+                Ok((begun, root)) => {
                     reader = Some(begun);
-                    Ok(unit)
+                    Ok(root)
                 }
                 Err(stop) => {
                     reader = None;

@@ -135,13 +135,12 @@ pub fn listing<const CALLS: bool>(stream: &[u8], text: &mut Vec<u8>) {
     };
     let mut handed_out = Reader::first(stream);
     if let Ok((reader, root)) = &mut handed_out {
-        line(text, root, 1);
-        while let Ok(unit) = if CALLS == OUT_OF_LINE { reader.next_out_of_line() } else { reader.next() } {
-            let depth = reader.depth(&unit);
+        line(text, &root.unit, root.depth);
+        while let Ok(handed) = if CALLS == OUT_OF_LINE { reader.next_out_of_line() } else { reader.next() } {
             if CALLS == OUT_OF_LINE {
-                line_out_of_line(text, &unit, depth);
+                line_out_of_line(text, &handed.unit, handed.depth);
             } else {
-                line(text, &unit, depth);
+                line(text, &handed.unit, handed.depth);
             }
         }
     }

@@ -1,4 +1,4 @@
-//! The rules of document 01, first edition, with requests b) and c) of 02, in plain Rust: what the plain codes share.
+//! The rules of document 01, first edition, with requests b), c) and g) of 02, in plain Rust: what the plain codes share.
 
 /// A unit as it is handed out. `own` is where its name or its numbers end, or its prefix if it has none of these.
 #[derive(Clone, Copy, Debug, PartialEq, Eq)]
@@ -8,6 +8,14 @@ pub struct Unit {
     pub start: usize,
     pub own: usize,
     pub end: usize,
+}
+
+/// A unit with its depth, 1 for the root, and its rank: how many stand before it directly in the same unit.
+#[derive(Clone, Copy, Debug, PartialEq, Eq)]
+pub struct Handed {
+    pub unit: Unit,
+    pub depth: usize,
+    pub rank: usize,
 }
 
 /// What ends the reading: a refusal's number with its offset, or 1 at the end of the stream.
@@ -32,6 +40,11 @@ impl Progress {
 
     pub fn id(&self) -> u8 {
         self.id
+    }
+
+    /// How many units it has had.
+    pub fn nested(&self) -> usize {
+        self.nested
     }
 
     pub fn add(&mut self, id: u8) {

@@ -6,6 +6,7 @@ uint64_t walk_from_c(const uint8_t *stream, size_t length) {
     uint64_t number = cdf_first(stream, length, place, answer);
     for (; number == CDF_OK; number = cdf_next(stream, length, place, answer))
         fold = (fold << 5 | fold >> 59) ^ answer[CDF_ANSWER_START] ^ answer[CDF_ANSWER_OWN_END] << 16 ^
-               answer[CDF_ANSWER_END] << 32 ^ answer[CDF_ANSWER_ID] << 48 ^ answer[CDF_ANSWER_ACTION] << 56;
+               answer[CDF_ANSWER_END] << 32 ^ answer[CDF_ANSWER_ID] << 48 ^ answer[CDF_ANSWER_ACTION] << 56 ^
+               answer[CDF_ANSWER_DEPTH] << 52 ^ answer[CDF_ANSWER_RANK] << 8;
     return fold ^ number << 57 ^ answer[CDF_ANSWER_OFFSET] << 3;
 }

@@ -2,11 +2,8 @@
  * returned and all that it wrote, in the names of the headers' constants. run compares that with what the model says. */
 #include "cdf.h"
 #include "constants.h"
+#include "lent.h"
 
-/* An array of the headers' length between numbers that nobody may write. */
-#define GUARD 0x5AFE5AFE5AFE5AFEu
-#define UNWRITTEN 0xDEADDEADDEADDEADu
-#define GUARDED(name, length) static struct { uint64_t before, is[length], after; } name
 GUARDED(place, CDF_PLACE_NUMBERS);
 GUARDED(answer, CDF_ANSWER_NUMBERS);
 GUARDED(one, 1);
@@ -14,49 +11,8 @@ GUARDED(explanation, CDF_EXPLAIN_NUMBERS);
 GUARDED(found, CDF_LOOKUP_NUMBERS);
 GUARDED(rescued, CDF_RESCUE_NUMBERS);
 GUARDED(building, CDF_BUILD_PLACE_NUMBERS);
-#define SET(name) (name.before = name.after = GUARD)
-#define KEPT(name) (name.before == GUARD && name.after == GUARD)
-#define COUNT(array) (sizeof(array) / sizeof((array)[0]))
-#define CLEAR(array) clear(array, COUNT(array))
 
-static void clear(uint64_t *array, size_t count) {
-    while (count) array[--count] = UNWRITTEN;
-}
-
-typedef struct {
-    uint8_t *is; /* null where there are none */
-    size_t length;
-} bytes;
 static bytes stream, buffer;
-
-static bytes many(size_t length, int byte) {
-    bytes made = {NULL, length};
-    if (length && !(made.is = (uint8_t *)malloc(length))) stop("no", "memory");
-    if (length) memset(made.is, byte, length);
-    return made;
-}
-
-/* Hexadecimal digits; none is '-'. */
-static bytes in_hex(void) {
-    const char *digits = word();
-    bytes made = many(*digits == '-' ? 0 : strlen(digits) / 2, 0);
-    for (size_t i = 0; i < made.length; i++) {
-        char pair[3] = {digits[2 * i], digits[2 * i + 1], 0};
-        made.is[i] = (uint8_t)strtoul(pair, NULL, 16);
-    }
-    return made;
-}
-
-static void tell_numbers(const uint64_t *from, size_t count) {
-    for (size_t i = 0; i < count; i++) printf(",%llu", (number)from[i]);
-}
-
-static void tell_sum(const uint8_t *from, size_t length) {
-    number sum = length;
-    for (size_t i = 0; i < length; i++) sum = sum * 31 + from[i];
-    printf(" sum=%llu", sum);
-}
-
 static int done;
 
 static void returned(const char *function, uint64_t is) {
@@ -76,6 +32,8 @@ static void tell_answer(void) {
     TELL(answer.is, CDF_ANSWER_END);
     TELL(answer.is, CDF_ANSWER_PART_START);
     TELL(answer.is, CDF_ANSWER_PART_LENGTH);
+    TELL(answer.is, CDF_ANSWER_DEPTH);
+    TELL(answer.is, CDF_ANSWER_RANK);
 }
 
 /* A place is told as one of zeros, after a refusal as one that stays, and else by its numbers as far as its count reaches. */
@@ -105,7 +63,11 @@ static void tell_place(const uint64_t *before) {
     putchar(',');
     tell(ACTIONS, p[at + 1]);
     tell_numbers(p + at + 2, 3);
-    printf(" %s\n", p[CDF_PLACE_FLAG] ? "CDF_PLACE_FLAG" : "-");
+    printf(" %s", p[CDF_PLACE_FLAG] ? "CDF_PLACE_FLAG" : "-");
+    at = FROM(CDF_PLACE_RANKS);
+    tell_numbers(p + at, p[CDF_PLACE_COUNT]);
+    TELL(p, CDF_PLACE_LAST_RANK);
+    putchar('\n');
 }
 
 static void tell_building(const uint64_t *before) {
@@ -205,6 +167,8 @@ static void replay(void) {
         TELL(entry, CDF_ENTRY_START);
         TELL(entry, CDF_ENTRY_OWN_END);
         TELL(entry, CDF_ENTRY_END);
+        TELL(entry, CDF_ENTRY_DEPTH);
+        TELL(entry, CDF_ENTRY_RANK);
     }
     for (size_t i = CDF_ENTRY_NUMBERS * one.is[0]; i <= numbers; i++)
         if (log[i] != UNWRITTEN) stop("written behind the entries of", "cdf_replay");

@@ -9,6 +9,7 @@ use lib.ListN.{length, take, length-take}
 use Rattle.cdf_unit_prefix.specs.Layout.{Layout, layoutOf, prefixOf}
 use Rattle.cdf_unit_prefix.specs.declared.Edition.{Edition}
 use Rattle.cdf_unit_list.specs.Units.{listing}
+use Rattle.cdf_unit_list.specs.Ranks.{rankedUnits}
 use Rattle.cdf_unit_list.specs.Check.{Verdict, checkOf}
 use Rattle.cdf_grammar.specs.Trees.{Forest, none, tree, ids, units}
 use Rattle.cdf_grammar.specs.Published.{InGrammar}
@@ -76,7 +77,7 @@ stream-holds e front t rs p tells =
     record {
       encoded = sym (p .bytes);
       checked = accepted ∙ ap {B = Verdict} (λ n. record { number = 0; value = n }) count;
-      read = λ k. Reading.proved .reads l front some k ∙ ap (λ (x : Outcome). due x (listing l front .units) k) end;
+      read = λ k. Reading.proved .reads l front some k ∙ ap (λ (x : Outcome). due x (rankedUnits l front) k) end;
       same = items;
     }
 

@@ -4,7 +4,7 @@ use mathlib.Core.List.{List, _∷_, _++_}
 use lib.ListN.{length}
 use Rattle.cdf_unit_prefix.specs.Layout.{Layout, layoutOf}
 use Rattle.cdf_unit_prefix.specs.declared.Edition.{Edition}
-use Rattle.cdf_reader_spec.specs.Calls.{noUnit}
+use Rattle.cdf_reader_spec.specs.Calls.{noRanked}
 use Rattle.cdf_reader_runs.specs.Runs.{Outcome}
 use Rattle.cdf_builder_spec.specs.Requests.{Request, unit}
 use Rattle.cdf_builder_spec.specs.Calls.{Reply, startOf, Finish, finishOf}
@@ -56,4 +56,4 @@ Allowed b = Begins (layout b) (asked b) × (size b ≤ layout b .limit) × (size
 
 -- What the reader tells past the last unit of an accepted stream.
 abbrev pub theEnd : Outcome
-theEnd = record { number = 1; offset = 0; unit = noUnit }
+theEnd = record { number = 1; offset = 0; handed = noRanked }

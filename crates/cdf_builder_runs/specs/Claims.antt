@@ -8,7 +8,7 @@ use mathlib.Core.Logic.{_↔_}
 use lib.ListN.{length, take, drop}
 use Rattle.cdf_unit_prefix.specs.Layout.{Layout, layoutOf}
 use Rattle.cdf_unit_prefix.specs.declared.Edition.{Edition}
-use Rattle.cdf_unit_list.specs.Units.{listing}
+use Rattle.cdf_unit_list.specs.Ranks.{rankedUnits}
 use Rattle.cdf_unit_list.specs.Check.{checkOf}
 use Rattle.cdf_grammar.specs.Trees.{Forest}
 use Rattle.cdf_grammar.specs.Published.{InGrammar}
@@ -29,8 +29,8 @@ pub record Holds (l : Layout) (front : List ℕ) (t : Forest) (rs : List Request
   pub encoded : front ≡ encode l t
   -- The check accepts them, with as many units as were asked for.
   pub checked : checkOf l front ≡ record { number = 0; value = length (requested l rs) }
-  -- A start and nexts of the reader hand out these units, one after the other, and then the end for ever;
-  pub read : (k : ℕ) → outcome (reading l front k) ≡ Reading.due theEnd (listing l front .units) k
+  -- A start and nexts of the reader hand out these units, one after the other, with depth and rank, and then the end for ever;
+  pub read : (k : ℕ) → outcome (reading l front k) ≡ Reading.due theEnd (rankedUnits l front) k
   -- and they say what was asked for, in the same order: id, action and own data.
   pub same : itemsOf l front ≡ requested l rs
 

@@ -23,18 +23,18 @@ module _ (l : Layout) (s : List ℕ) where
     pub stands : Stands l s before place taken
     pub stops : Stops l s taken (listing l s .end)
 
-  final-from : {x : Step} {us : List Unit} {e : End} → Run l s x us e → e ≡ listing l s .end → Keeps l s x → (before : List Unit) →
-      listing l s .units ≡ reverseAux before us → (p : ReaderPlace) → Stands l s before p x → Final
-  final-from ends q k before all p h =
+  final-from : {x : Step} {us : List Unit} {e : End} → Run l s x us e → e ≡ listing l s .end → (before : List Unit) →
+      listing l s .units ≡ reverseAux before us → (p : ReaderPlace) → Keeps l s p x → Stands l s before p x → Final
+  final-from ends q before all p k h =
       record { before = before; place = p; taken = done; units = all; stands = h; stops = rw (← q) at-end }
-  final-from (breaks {n} {at}) q k before all p h =
+  final-from (breaks {n} {at}) q before all p k h =
       record { before = before; place = p; taken = refused n at; units = all; stands = h; stops = rw (← q) at-fault }
-  final-from (hands {u = u} {os = os} {pos = pos} run) q k before all p h =
-      let next = placeAt u os pos in
-      final-from run q (next-keeps l s next k) (u ∷ before) all next (stands-next l s before p u os pos h k)
+  final-from (hands {u = u} {os = os} {pos = pos} run) q before all p k h =
+      let next = placeAt p u os pos in
+      final-from run q (u ∷ before) all next (next-keeps l s next k) (stands-next l s before p u os pos h k)
 
   pub final : Final
-  final = final-from (listed l s) refl (first-keeps l s) [] refl emptyPlace (refl, refl)
+  final = final-from (listed l s) refl [] refl emptyPlace (first-keeps l s) (refl, refl)
 
   -- What the tool tells, by the last step.
   pub why-after : (before : List Unit) → listing l s .units ≡ reverse before → whyOf l s ≡ whyAfter before (listing l s .end)

@@ -26,11 +26,11 @@ use Rattle.cdf_unit_list.proofs.Stepping.{fresh, step-inside, step-closes, step
 use Rattle.cdf_unit_list.proofs.Stepping.{enters, opened-parent, opened-leaf}
 
 -- Where the units nested in a unit with this text stand.
-abbrev innerAt : Layout → ℕ → List ℕ → ℕ
+abbrev pub innerAt : Layout → ℕ → List ℕ → ℕ
 innerAt l pos text = pos + prefixOf l + length text
 
 -- The unit at the front of a forest, as it is listed.
-abbrev unitHere : Layout → ℕ → ℕ → ℕ → List ℕ → Forest → Unit
+abbrev pub unitHere : Layout → ℕ → ℕ → ℕ → List ℕ → Forest → Unit
 unitHere l pos id action text inner =
     let body : ℕ = pos + prefixOf l in
     let end : ℕ = body + (length text + length (encode l inner)) in
@@ -44,14 +44,14 @@ unit-here l pos id action text inner =
     let end : pos + sizeOf l text inner ≡ u .end = omega arith in
     rw (own, end)
 
-list-tree : (l : Layout) (pos id action : ℕ) (text : List ℕ) (inner rest : Forest) →
+pub list-tree : (l : Layout) (pos id action : ℕ) (text : List ℕ) (inner rest : Forest) →
     list l pos (tree id action text inner rest)
     ≡ unitHere l pos id action text inner
     ∷ (list l (innerAt l pos text) inner ++ list l (unitHere l pos id action text inner .end) rest)
 unfolding list
 list-tree l pos id action text inner rest = refl
 
-list-one : (l : Layout) (pos id action : ℕ) (text : List ℕ) (inner : Forest) →
+pub list-one : (l : Layout) (pos id action : ℕ) (text : List ℕ) (inner : Forest) →
     list l pos (tree id action text inner none) ≡ unitHere l pos id action text inner ∷ list l (innerAt l pos text) inner
 unfolding list
 list-one l pos id action text inner = rw append-nil

@@ -14,6 +14,7 @@ pub mod Prefixes
 pub mod Built
 pub mod Nesting
 pub mod Forward
+pub mod Ranking
 pub mod Written
 pub mod Backward
 pub mod Within

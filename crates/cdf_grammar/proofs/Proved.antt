@@ -9,16 +9,19 @@ use Rattle.cdf_unit_prefix.specs.Layout.{Layout, layoutOf}
 use Rattle.cdf_unit_table.specs.States.{rootKind}
 use Rattle.cdf_unit_list.specs.Units.{ended, Listing, listing}
 use Rattle.cdf_unit_list.specs.Check.{Verdict, checkOf}
+use Rattle.cdf_unit_list.specs.Ranks.{standsIn}
 use Rattle.cdf_unit_list.specs.Samples.{k2}
 use Rattle.cdf_unit_prefix.specs.declared.Edition.{Edition}
 use Rattle.cdf_unit_prefix.specs.declared.Edition.the-variants.{First, Second}
 use Rattle.cdf_grammar.specs.Trees.{Forest, ids, units}
 use Rattle.cdf_grammar.specs.Encoding.{Bytes, Stream, encode, list, says}
+use Rattle.cdf_grammar.specs.Ranking.{stands}
 use Rattle.cdf_grammar.specs.Example.{person}
 use Rattle.cdf_grammar.specs.Claims.{Accepted, itemsOf, InEdition, Claims}
 use Rattle.cdf_grammar.proofs.Fits.{Fits}
 use Rattle.cdf_grammar.proofs.Agrees.{fits, conforms, root-agrees}
 use Rattle.cdf_grammar.proofs.Forward.{length-list}
+use Rattle.cdf_grammar.proofs.Ranking.{tree-stands}
 use Rattle.cdf_grammar.proofs.Within.{lists, built, accepted-ends}
 use Rattle.cdf_grammar.proofs.Children.{children}
 use Rattle.cdf_grammar.proofs.Heights.{depth-most}
@@ -49,6 +52,10 @@ module _ (l : Layout) (room : l .limit < 256 ^ l .lengthBytes) where
   counted : (s : List ℕ) (t : Forest) → Stream l s t → checkOf l s ≡ record { number = 0; value = units t }
   unfolding checkOf
   counted s t p = rw (whole s t p, length-list l 0 t)
+
+  stand : (s : List ℕ) (t : Forest) → Stream l s t → standsIn l s ≡ stands 1 0 t
+  unfolding standsIn
+  stand s t p = let w = tree-of s t p in rw (whole s t p) (tree-stands l t (w .id) (w .single) (w .fit))
 
   stream-of : (s : List ℕ) → Bytes s → Accepted l s → (t : Forest) × Stream l s t
   unfolding checkOf
@@ -93,6 +100,7 @@ of e =
       counted = counted l room;
       unique = once l room;
       listed = λ s t p. ap (λ (x : Listing). x .units) (whole l room s t p);
+      ranked = stand l room;
       shallow = λ s t p. let w = tree-of l room s t p in depth-most l t (w .id) (w .single) (w .fit);
       one-kind = λ s t p. one-kind t (p .tree .conforms);
       same = λ s r b c x y e.

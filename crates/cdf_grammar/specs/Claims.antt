@@ -11,6 +11,7 @@ use Rattle.cdf_unit_table.specs.Ids.{erGroup, template, temporaryKey, templateK
 use Rattle.cdf_unit_prefix.specs.Layout.{Layout, layoutOf}
 use Rattle.cdf_unit_list.specs.Units.{listing}
 use Rattle.cdf_unit_list.specs.Check.{checkOf}
+use Rattle.cdf_unit_list.specs.Ranks.{standsIn}
 use Rattle.cdf_unit_list.specs.Samples.{k2}
 use Rattle.cdf_unit_prefix.specs.declared.Edition.{Edition}
 use Rattle.cdf_unit_prefix.specs.declared.Edition.the-variants.{First}
@@ -18,6 +19,7 @@ use Rattle.cdf_grammar.specs.Trees.{Forest, none, tree, ids, units, dept
 use Rattle.cdf_grammar.specs.Published.{Each, Among}
 use Rattle.cdf_grammar.specs.Encoding.{Bytes, Stream, list, Item, itemOf}
 use Rattle.cdf_grammar.specs.Groups.{Children, groupBytes, Holds}
+use Rattle.cdf_grammar.specs.Ranking.{stands}
 use Rattle.cdf_grammar.specs.Example.{person}
 
 -- The check accepts these bytes.
@@ -55,6 +57,8 @@ pub record InEdition (e : Edition) : Type 0 where
   pub unique : (s : List ℕ) (t u : Forest) → Stream (layoutOf e) s t → Stream (layoutOf e) s u → t ≡ u
   -- The unit list is that tree's.
   pub listed : (s : List ℕ) (t : Forest) → Stream (layoutOf e) s t → listing (layoutOf e) s .units ≡ list (layoutOf e) 0 t
+  -- Depth and rank of each listed unit are that tree's: the root's are 1 and 0 (02, g).
+  pub ranked : (s : List ℕ) (t : Forest) → Stream (layoutOf e) s t → standsIn (layoutOf e) s ≡ stands 1 0 t
   -- It is at most five units deep.
   pub shallow : (s : List ℕ) (t : Forest) → Stream (layoutOf e) s t → depth t ≤ 5
   -- Each of its templates and entity keys has one temporary key and no other key, or only template keys (02, c).

@@ -12,20 +12,15 @@ use Rattle.cdf_reader_runs.proofs.Looping.{Going, begun, Turn, turned, over}
 use Rattle.cdf_reader_runs.proofs.Further.{first-later, next-later, ahead, less}
 use Rattle.cdf_reader.specs.View.{view, replyOf}
 use Rattle.cdf_reader.specs.declared.Answer.{Answer}
-use Rattle.cdf_reader_spec.proofs.Counted.{length-open}
 use Rattle.cdf_listing_spec.specs.Text.{lineOf, listedLines}
-use Rattle.cdf_listing_spec.proofs.Deep.{depthIn}
 use Rattle.cdf_listing_spec.proofs.Short.{listed-short}
-use Rattle.cdf_listing_spec.proofs.Lines.{lineIn, textOf, lines-on, lines-over, text-next}
+use Rattle.cdf_listing_spec.proofs.Lines.{textOf, lines-on, lines-over, text-next}
 use Rattle.cdf_listing_lines.specs.Put.{Put}
 use Rattle.cdf_listing_lines.proofs.Putting.{nothing-put, put-both}
 
 -- The line of the unit that an answer hands out.
 abbrev pub lineBy : Answer → List ℕ
-lineBy a = lineOf (depthIn (a .place .fresh) (a .place .count)) (a .unit)
-
-line-by : (a : Answer) → lineIn (replyOf a) ≡ lineBy a
-line-by a = rw length-open
+lineBy a = lineOf (a .handed .depth) (a .handed .unit)
 
 module _ (s : List ℕ) where
   -- The lines before the answer in hand were put at the front.
@@ -59,10 +54,7 @@ module _ (s : List ℕ) where
     here : Turn (layoutOf First) s (w .units) (replyOf a)
     here = turned (layoutOf First) s (w .units) (replyOf a) (w .going) z
 
-    pub lined-few : a .place .count ≤ 4
-    lined-few = rw length-open at (here .few)
-
-    pub lined-ordered : a .unit .start ≤ a .unit .end
+    pub lined-ordered : a .handed .unit .start ≤ a .handed .unit .end
     lined-ordered = omega (arith, here .own, here .end)
 
     pub lined-near : at < 2 ^ 32
@@ -73,9 +65,9 @@ module _ (s : List ℕ) where
     pub lined-next : (r : Answer) → replyOf r ≡ nextOf (layoutOf First) s (view (a .place)) → {more : List ℕ} {next : ℕ} →
         Put after at (lineBy a) more next → Lined before r more next
     lined-next r e p = record {
-      units = a .unit ∷ w .units;
+      units = a .handed .unit ∷ w .units;
       going = rw e (here .next);
-      put = rw (text-next (layoutOf First) s (w .units) (replyOf a) here, line-by a) (put-both (w .put) p);
+      put = rw (text-next (layoutOf First) s (w .units) (replyOf a) here) (put-both (w .put) p);
       inside = λ y. (rw (← e) at (next-later (layoutOf First) s (view (a .place)))) y .1;
     }
 

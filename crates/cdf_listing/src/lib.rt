@@ -1,7 +1,5 @@
 // The listing of a stream as text, written into a lent buffer.
 ghost use mathlib.Core.Path.{_≡_};
-ghost use mathlib.Core.Bool.{cond};
-ghost use Prim.Native.Nat.{suc, _≤_};
 ghost use Rattle.cdf_unit_prefix.specs.Layout.{layoutOf};
 ghost use Rattle.cdf_unit_prefix.specs.declared.Edition.the-variants.{First};
 ghost use Rattle.cdf_listing_spec.specs.Text.{listedLines, listingText};
@@ -12,24 +10,12 @@ use cdf_check::check;
 use cdf_listing_lines::put_line;
 use cdf_listing_lines::put_ok;
 use cdf_listing_lines::put_refused;
-use cdf_reader::Place;
 use cdf_reader::first;
 
 // 0 and how many bytes were written, or 12 and none.
 pub struct Written {
     pub number: usize,
     pub length: usize,
-}
-
-// How deep the unit stands that was just handed out: the place counts it if it is open.
-fn depth_of(p: Place) -> usize
-    requires { ⌜ p .count ≤ 4 ⌝ }
-    ensures { λ r. ⌜ r ≡ cond (p .fresh) (p .count) (suc (p .count)) ⌝ }
-{
-    if p.fresh {
-        return p.count;
-    }
-    p.count + 1
 }
 
 // A line for each unit, from the front of the buffer on.
@@ -40,8 +26,8 @@ fn put_units(s: &[u8], out: &mut [u8]) -> usize
     let mut at = 0;
     while a.number == 0 {
         let p = a.place;
-        let unit = a.unit;
-        let depth = depth_of(p);
+        let depth = a.handed.depth;
+        let unit = a.handed.unit;
         let size = unit.end - unit.start;
         at = put_line(out, at as u32, depth, unit, size);
         a = p.next(s);

@@ -5,17 +5,15 @@ use mathlib.Core.List.{List, [], _∷_, _++_, append-assoc, append-nil, reverseA
 use lib.ListN.{length}
 use Rattle.cdf_unit_prefix.specs.Layout.{Layout}
 use Rattle.cdf_unit_list.specs.Units.{openAt, depths}
-use Rattle.cdf_unit_list.specs.Stack.{Step}
+use Rattle.cdf_unit_list.specs.Ranks.{standing}
 use Rattle.cdf_unit_list.specs.declared.Unit.{Unit}
-use Rattle.cdf_reader_spec.specs.Place.{ReaderPlace}
 use Rattle.cdf_reader_spec.specs.Calls.{Reply}
-use Rattle.cdf_reader_runs.proofs.Looping.{Stands, Going, Turn, Over}
+use Rattle.cdf_reader_runs.proofs.Looping.{Going, Turn, Over}
 use Rattle.cdf_listing_spec.specs.Text.{lineOf, linesOf, listedLines}
-use Rattle.cdf_listing_spec.proofs.Deep.{depthIn, Deep, first-deep, next-deep}
 
 -- The line of the unit that an answer hands out.
 abbrev pub lineIn : Reply → List ℕ
-lineIn a = lineOf (depthIn (a .place .fresh) (length (a .place .units))) (a .unit)
+lineIn a = lineOf (a .handed .depth) (a .handed .unit)
 
 -- The line of a unit behind others, and the lines of all of them.
 abbrev lineBehind : List Unit → Unit → List ℕ
@@ -43,11 +41,7 @@ module _ (l : Layout) (s : List ℕ) where
   unfolding listedLines linesOf depths
   lines-over before a o = rw (o .all) (text-on before [] ∙ append-nil (textOf before))
 
-  deep : (before : List Unit) (p : ReaderPlace) (x : Step) → Stands l s before p x → Deep before x
-  deep [] p x h = rw (h .1) (first-deep l s)
-  deep (u ∷ us) p x h = rw (h .1) (next-deep l s (u ∷ us) (p .units) (p .position) (h .0 .follow))
-
   -- The line of a unit that was handed out comes next.
-  pub text-next : (before : List Unit) (a : Reply) → Turn l s before a → textOf (a .unit ∷ before) ≡ textOf before ++ lineIn a
-  unfolding textOf
-  text-next before a t = rw (t .fresh, deep before (t .place) _ (t .stands) .0)
+  pub text-next : (before : List Unit) (a : Reply) → Turn l s before a → textOf (a .handed .unit ∷ before) ≡ textOf before ++ lineIn a
+  unfolding textOf standing
+  text-next before a t = rw (t .ranked)

@@ -11,6 +11,7 @@ use Rattle.cdf_unit_table.proofs.Bools.{of-cond, clash}
 use Rattle.cdf_unit_prefix.specs.Layout.{Layout}
 use Rattle.cdf_unit_list.specs.Units.{End, unfinished, ended, fault, listing}
 use Rattle.cdf_unit_list.specs.Check.{checkOf}
+use Rattle.cdf_unit_list.specs.Ranks.{rankedUnits, ranked, standing}
 use Rattle.cdf_unit_list.specs.declared.Unit.{Unit}
 use Rattle.cdf_unit_list.proofs.Proved.{proved}
 use Rattle.cdf_check.specs.Answers.{checkedBy, checkedOf}
@@ -32,12 +33,12 @@ module _ (l : Layout) (s : List ℕ) where
       go (fault m k) q e = let same : n ≡ m = cc in omega (arith, proved .numbered l s q)
 
   -- The unit of a start is listed first; beside any other number it is the unit of zeros.
-  pub group-is : (a : Reply) → a ≡ firstOf l s → eqb (a .unit .id) erGroup ≡ isGroup (listing l s .units)
-  unfolding outcome afterwards due isGroup
+  pub group-is : (a : Reply) → a ≡ firstOf l s → eqb (a .handed .unit .id) erGroup ≡ isGroup (listing l s .units)
+  unfolding outcome afterwards due isGroup rankedUnits ranked standing
   group-is a e = go (listing l s .units) (ap outcome e ∙ begins l s)
     where
-      go : (us : List Unit) → outcome a ≡ due (afterwards (checkOf l s)) us 0 → eqb (a .unit .id) erGroup ≡ isGroup us
+      go : (us : List Unit) → outcome a ≡ due (afterwards (checkOf l s)) (ranked [] us) 0 → eqb (a .handed .unit .id) erGroup ≡ isGroup us
       go [] x =
-          ap (λ (r : Outcome). eqb (r .unit .id) erGroup) x
-          ∙ of-cond (λ (r : Outcome). eqb (r .unit .id) erGroup ≡ false) (eqb (checkOf l s .number) 0) _ _ (λ y. refl) (λ y. refl)
-      go (u ∷ us) x = ap (λ (r : Outcome). eqb (r .unit .id) erGroup) x
+          ap (λ (r : Outcome). eqb (r .handed .unit .id) erGroup) x
+          ∙ of-cond (λ (r : Outcome). eqb (r .handed .unit .id) erGroup ≡ false) (eqb (checkOf l s .number) 0) _ _ (λ y. refl) (λ y. refl)
+      go (u ∷ us) x = ap (λ (r : Outcome). eqb (r .handed .unit .id) erGroup) x

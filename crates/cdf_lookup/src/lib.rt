@@ -46,7 +46,7 @@ pub fn is_group(s: &[u8]) -> bool
     ensures { λ r. ⌜ r ≡ isGroup (listing (layoutOf First) (now (s .entry)) .units) ⌝ }
 {
     let a = first_unit(s);
-    let root = a.unit;
+    let root = a.handed.unit;
     root.id == ER_GROUP
 }
 

@@ -127,7 +127,7 @@ pub fn search(s: &[u8], template: &[u8], kind: usize, key: &[u8], field: &[u8]) 
     let mut a = first_unit(s);
     let mut state = Search::Seeking;
     while a.number == 0 {
-        let unit = a.unit;
+        let unit = a.handed.unit;
         state = advance(Edition::First, s, state, unit, template, kind, key, field);
         if is_over(state) {
             return outcome(state);

@@ -8,5 +8,6 @@ use Rattle.cdf_reader.specs.Words.{PlaceWords, StructWords}
 use Rattle.cdf_reader.specs.declared.Place.{Place}
 
 pub record Claims : Type 0 where
-  -- Every place with at most four open units, all of its numbers below 2^64, is the view of some struct.
-  pub viewed : (p : ReaderPlace) → length (p .units) ≤ 4 → PlaceWords p → (q : Place) × StructWords q × (view q ≡ p)
+  -- Every place with at most four open units, a rank for each and all of its numbers below 2^64, is the view of some struct.
+  pub viewed : (p : ReaderPlace) → length (p .units) ≤ 4 → length (p .ranks) ≡ length (p .units) → PlaceWords p →
+      (q : Place) × StructWords q × (view q ≡ p)

@@ -14,6 +14,7 @@ cursorOf p = record {
   o3 = p .o3;
   last = p .last;
   fresh = p .fresh;
+  ranks = p .ranks;
 }
 
 abbrev pub placeWith : Cursor → Place
@@ -26,7 +27,8 @@ placeWith c = record {
   o3 = c .o3;
   last = c .last;
   fresh = c .fresh;
+  ranks = c .ranks;
 }
 
 abbrev pub answerOf : Outcome → Answer
-answerOf o = record { number = o .number; offset = o .offset; unit = o .unit; place = placeWith (o .cursor) }
+answerOf o = record { number = o .number; offset = o .offset; handed = o .handed; place = placeWith (o .cursor) }

@@ -12,22 +12,25 @@ ghost use Rattle.cdf_reader.specs.View.{view, replyOf, partAt, bytesOf, 
 ghost use Rattle.cdf_reader.specs.Uses.{placeKept};
 ghost use Rattle.cdf_reader.specs.Cursors.{cursorOf, answerOf};
 use cdf_reader_close::close;
+use cdf_reader_close::rank_at;
 use cdf_reader_cursor::Cursor;
 use cdf_reader_cursor::Outcome;
 use cdf_reader_cursor::first_as;
 use cdf_reader_cursor::moved;
 use cdf_reader_cursor::no_cursor;
 use cdf_reader_spec::Call;
+use cdf_reader_spec::Ranks;
 use cdf_reader_step::call_at;
 use cdf_reader_step::next_at;
 pub use cdf_reader_use::is_start;
 use cdf_unit_list::Open;
+use cdf_unit_list::Ranked;
 use cdf_unit_list::Unit;
 use cdf_unit_prefix::Edition;
 
 // Where a reader is: the position; how many units are open, `top` the innermost of them and `o1` to `o3` those around it, from the
-// outermost inwards; the last unit handed out, and whether that one may still be skipped. Which place of the format this is, its
-// view says: units that the count does not reach do not matter.
+// outermost inwards; the last unit handed out, and whether that one may still be skipped; the ranks of all these. Which place of the
+// format this is, its view says: units that the count does not reach do not matter.
 pub struct Place {
     pub position: usize,
     pub count: usize,
@@ -37,13 +40,14 @@ pub struct Place {
     pub o3: Open,
     pub last: Unit,
     pub fresh: bool,
+    pub ranks: Ranks,
 }
 
-// What a call answers: the number and its offset, the unit handed out (zeros beside a number other than 0) and the new place.
+// What a call answers: the number and its offset, the unit handed out with its depth and rank (zeros where none is) and the new place.
 pub struct Answer {
     pub number: usize,
     pub offset: usize,
-    pub unit: Unit,
+    pub handed: Ranked,
     pub place: Place,
 }
 
@@ -51,13 +55,14 @@ pub struct Answer {
 fn answered(o: Outcome) -> Answer
     ensures { λ r. ⌜ r ≡ answerOf o ⌝ }
 {
-    let unit = o.unit;
+    let handed = o.handed;
     let c = o.cursor;
     let top = c.top;
     let o1 = c.o1;
     let o2 = c.o2;
     let o3 = c.o3;
     let last = c.last;
+    let ranks = c.ranks;
     let place = Place {
         position: c.position,
         count: c.count,
@@ -67,11 +72,12 @@ fn answered(o: Outcome) -> Answer
         o3,
         last,
         fresh: c.fresh,
+        ranks,
     };
     Answer {
         number: o.number,
         offset: o.offset,
-        unit,
+        handed,
         place,
     }
 }
@@ -86,6 +92,7 @@ impl Place {
         let o2 = self.o2;
         let o3 = self.o3;
         let last = self.last;
+        let ranks = self.ranks;
         Cursor {
             position: self.position,
             count: self.count,
@@ -95,6 +102,7 @@ impl Place {
             o3,
             last,
             fresh: self.fresh,
+            ranks,
         }
     }
 
@@ -168,6 +176,15 @@ impl Place {
         let left = close(self.position, self.count, top, o1, o2, o3);
         let inner = left.top;
         let last = self.last;
+        let old = self.ranks;
+        let rank = rank_at(left.count, self.count, old);
+        let ranks = Ranks {
+            top: rank,
+            r1: old.r1,
+            r2: old.r2,
+            r3: old.r3,
+            last: old.last,
+        };
         Place {
             position: self.position,
             count: left.count,
@@ -177,6 +194,7 @@ impl Place {
             o3,
             last,
             fresh,
+            ranks,
         }
     }
 }

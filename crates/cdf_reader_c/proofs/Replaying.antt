@@ -11,7 +11,7 @@ use lib.Seq.{take-at, drop-at, drop-cons, drop-drop, append-snoc}
 use Rattle.cdf_unit_table.proofs.Parts.{rest}
 use Rattle.cdf_unit_prefix.specs.Layout.{layoutOf}
 use Rattle.cdf_unit_prefix.specs.declared.Edition.the-variants.{First}
-use Rattle.cdf_reader_spec.specs.Slots.{openUnits}
+use Rattle.cdf_reader_spec.specs.Slots.{openUnits, openRanks}
 use Rattle.cdf_reader_spec.specs.declared.Call.{Call}
 use Rattle.cdf_reader.specs.View.{view, noPlace}
 use Rattle.cdf_reader_plain.specs.Calls.{Told}
@@ -27,8 +27,8 @@ unfolding entries
 entries-more [] t = append-nil (entryOf t)
 entries-more (u ∷ ts) t = ap (λ es. entryOf u ++ es) (entries-more ts t) ∙ sym (append-assoc (entryOf u) (entries ts) (entryOf t))
 
--- each of nine numbers.
-length-entries : (ts : List Told) → length (entries ts) ≡ 9 * length ts
+-- each of eleven numbers.
+length-entries : (ts : List Told) → length (entries ts) ≡ 11 * length ts
 unfolding entries
 length-entries [] = refl
 length-entries (t ∷ ts) = omega (arith, length-entries ts)
@@ -53,24 +53,24 @@ module _ (s codes log₀ : List ℕ) where
 
   pub record Running (log place : List ℕ) (k at : ℕ) : Type 0 where
     pub within : k ≤ length codes
-    pub nine : at ≡ 9 * k
+    pub eleven : at ≡ 11 * k
     pub done : List Told
     pub count : length done ≡ k
     pub all : ranOf s codes ≡ done ++ ahead place k
     pub is : log ≡ logAfter done log₀
 
-  pub long : 9 * length codes ≤ length log₀ → {log place : List ℕ} {k at : ℕ} → Running log place k at → length log ≡ length log₀
+  pub long : 11 * length codes ≤ length log₀ → {log place : List ℕ} {k at : ℕ} → Running log place k at → length log ≡ length log₀
   long room r =
       ap length (r .is) ∙ simp (length-append, length-drop) (omega (arith, length-entries (r .done), r .count, r .within))
 
   -- There is room for one more entry.
-  pub fits-more : 9 * length codes ≤ length log₀ → {log place : List ℕ} {k at : ℕ} → Running log place k at → k < length codes →
-      at + 9 ≤ length log
-  fits-more room r less = omega (arith, long room r, r .nine)
+  pub fits-more : 11 * length codes ≤ length log₀ → {log place : List ℕ} {k at : ℕ} → Running log place k at → k < length codes →
+      at + 11 ≤ length log
+  fits-more room r less = omega (arith, long room r, r .eleven)
 
   pub begun : Running log₀ (numbersOf noPlace) 0 0
-  unfolding openUnits entries
-  begun = record { within = omega arith; nine = refl; done = []; count = refl; all = refl; is = refl }
+  unfolding openUnits openRanks entries
+  begun = record { within = omega arith; eleven = refl; done = []; count = refl; all = refl; is = refl }
 
   -- A call's entry is what the reader tells of it.
   entry-is : (c : Call) (place after answer : List ℕ) (number : ℕ) → Called c s place number after answer →
@@ -80,8 +80,8 @@ module _ (s codes log₀ : List ℕ) where
   module _ {log place : List ℕ} {k at : ℕ} (r : Running log place k at) where
     pub on : k < length codes → knownCode (getD codes k 0) ≡ true → (after answer tail : List ℕ) (number : ℕ) →
         Called (callBy (getD codes k 0)) s place number after answer →
-        tail ≡ entryFrom number answer ++ drop 9 (take (length log - at) (drop at log)) →
-        Running (putMid at (length log - at) log tail) after (k + 1) (at + 9)
+        tail ≡ entryFrom number answer ++ drop 11 (take (length log - at) (drop at log)) →
+        Running (putMid at (length log - at) log tail) after (k + 1) (at + 11)
     on less known after answer tail number w is =
         let code = getD codes k 0 in
         let told = telling (replyTo (callBy code) s place) (partTo (callBy code) s place) in
@@ -91,29 +91,29 @@ module _ (s codes log₀ : List ℕ) where
         rw calls (reader-on (layoutOf First) s (view (placeFrom place)) (callBy code) (callsOf (drop (suc k) codes))
         ∙ ap (λ p. told ∷ readerRun (layoutOf First) s p (callsOf (drop (suc k) codes))) (sym (w .moves))) in
         let front = entries (r .done) in
-        let size : length front ≡ at = omega (arith, length-entries (r .done), r .count, r .nine) in
+        let size : length front ≡ at = omega (arith, length-entries (r .done), r .count, r .eleven) in
         let few : length (drop at log) ≤ length log - at = simp length-drop (omega arith) in
         let none : drop (length log - at) (drop at log) ≡ [] = drop-of-length-le (drop at log) few in
-        let kept : take at log ≡ front = rw (r .is) (take-at front (drop (9 * length (r .done)) log₀) at size) in
-        let old = drop (9 * length (r .done)) log₀ in
-        let cut : drop 9 (take (length log - at) (drop at log)) ≡ drop (9 * length (r .done) + 9) log₀ =
-        rw (rest at log) (ap (λ l. drop 9 (drop at l)) (r .is) ∙ ap (drop 9) (drop-at front old at size) ∙ drop-drop 9 (9 * length (r .done)) log₀) in
-        let placed : putMid at (length log - at) log tail ≡ front ++ (entryOf told ++ drop (9 * length (r .done) + 9) log₀) =
+        let kept : take at log ≡ front = rw (r .is) (take-at front (drop (11 * length (r .done)) log₀) at size) in
+        let old = drop (11 * length (r .done)) log₀ in
+        let cut : drop 11 (take (length log - at) (drop at log)) ≡ drop (11 * length (r .done) + 11) log₀ =
+        rw (rest at log) (ap (λ l. drop 11 (drop at l)) (r .is) ∙ ap (drop 11) (drop-at front old at size) ∙ drop-drop 11 (11 * length (r .done)) log₀) in
+        let placed : putMid at (length log - at) log tail ≡ front ++ (entryOf told ++ drop (11 * length (r .done) + 11) log₀) =
         ap (λ l. l ++ (tail ++ drop (length log - at) (drop at log))) kept
         ∙ ap (λ l. front ++ (tail ++ l)) none
         ∙ ap (λ l. front ++ l)
-        (append-nil tail ∙ is ∙ ap (λ e. e ++ drop 9 (take (length log - at) (drop at log))) (entry-is (callBy code) place after answer number w)
+        (append-nil tail ∙ is ∙ ap (λ e. e ++ drop 11 (take (length log - at) (drop at log))) (entry-is (callBy code) place after answer number w)
         ∙ ap (λ l. entryOf told ++ l) cut) in
-        let more : 9 * length (r .done ++ (told ∷ [])) ≡ 9 * length (r .done) + 9 = simp length-append (omega arith) in
+        let more : 11 * length (r .done ++ (told ∷ [])) ≡ 11 * length (r .done) + 11 = simp length-append (omega arith) in
         record {
           within = omega arith;
-          nine = omega (arith, r .nine);
+          eleven = omega (arith, r .eleven);
           done = r .done ++ (told ∷ []);
           count = simp length-append (omega (arith, r .count));
           all = rw add-one (r .all ∙ ap (λ ts. r .done ++ ts) next ∙ sym (append-snoc (r .done) told (ahead after (suc k))));
           is =
-              placed ∙ sym (append-assoc front (entryOf told) (drop (9 * length (r .done) + 9) log₀))
-              ∙ ap (λ es. es ++ drop (9 * length (r .done) + 9) log₀) (sym (entries-more (r .done) told))
+              placed ∙ sym (append-assoc front (entryOf told) (drop (11 * length (r .done) + 11) log₀))
+              ∙ ap (λ es. es ++ drop (11 * length (r .done) + 11) log₀) (sym (entries-more (r .done) told))
               ∙ ap (λ n. entries (r .done ++ (told ∷ [])) ++ drop n log₀) (sym more);
         }
 

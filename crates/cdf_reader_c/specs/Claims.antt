@@ -7,8 +7,9 @@ use lib.ListN.{length, replicate}
 use Rattle.cdf_unit_prefix.specs.Layout.{layoutOf}
 use Rattle.cdf_unit_prefix.specs.declared.Edition.the-variants.{First}
 use Rattle.cdf_unit_list.specs.Units.{listing}
+use Rattle.cdf_unit_list.specs.Ranks.{rankedUnits}
 use Rattle.cdf_unit_list.specs.Check.{checkOf}
-use Rattle.cdf_unit_list.specs.declared.Unit.{Unit}
+use Rattle.cdf_unit_list.specs.declared.Ranked.{Ranked}
 use Rattle.cdf_grammar.specs.Trees.{Forest}
 use Rattle.cdf_grammar.specs.Encoding.{Stream}
 use Rattle.cdf_reader_plain.specs.Calls.{Told}
@@ -26,11 +27,11 @@ Writes s codes answers =
 pub record Claims : Type 0 where
   -- First half. Of a stream of the published grammar, begun with a start: the plain reader's answers over the unit list.
   pub replays : (s : List ℕ) (t : Forest) → Stream (layoutOf First) s t →
-      (first : Unit) × (rest : List Unit) × (listing (layoutOf First) s .units ≡ first ∷ rest)
+      (first : Ranked) × (rest : List Ranked) × (rankedUnits (layoutOf First) s ≡ first ∷ rest)
       × ((codes : List ℕ) → Writes s (1 ∷ codes) (plainRun first rest (callsOf codes)))
   -- Second half. Of any bytes with a listed unit, a start and k NEXTs: the unit list, and after it for ever the end where the check
   -- accepts, else the check's number and offset.
   pub replays-nexts : (s : List ℕ) → (listing (layoutOf First) s .units ≡ [] → ⊥) → (k : ℕ) →
-      Writes s (1 ∷ replicate k 2) (handingAll (suc k) (listing (layoutOf First) s .units) (everAfter (checkOf (layoutOf First) s)))
+      Writes s (1 ∷ replicate k 2) (handingAll (suc k) (rankedUnits (layoutOf First) s) (everAfter (checkOf (layoutOf First) s)))
   -- Of any n bytes: at most n / 6 of these answers are 0.
   pub replays-few : (s : List ℕ) (k : ℕ) → (answers : List Told) × Writes s (1 ∷ replicate k 2) answers × (zeros answers * 6 ≤ length s)

@@ -3,7 +3,7 @@ use Prim.Native.Nat.{ℕ}
 use mathlib.Core.List.{List, [], _∷_}
 use lib.ListN.{getD}
 
--- An entry of the eight numbers of an answer.
+-- An entry of the ten numbers of an answer.
 abbrev pub entryFrom : ℕ → List ℕ → List ℕ
 entryFrom number a =
     number
@@ -15,4 +15,6 @@ entryFrom number a =
     ∷ getD a 3 0
     ∷ getD a 4 0
     ∷ getD a 5 0
+    ∷ getD a 8 0
+    ∷ getD a 9 0
     ∷ []

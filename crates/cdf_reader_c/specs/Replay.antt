@@ -30,18 +30,21 @@ callsOf (code ∷ codes) = cond (knownCode code) (callBy code ∷ callsOf codes)
 abbrev pub ranOf : List ℕ → List ℕ → List Told
 ranOf s codes = readerRun (layoutOf First) s emptyPlace (callsOf codes)
 
--- An entry of the log: the number, the offset, the part's start and length, and the unit (id, action, start, own end, end).
+-- An entry of the log: the number, the offset, the part's start and length, the unit (id, action, start, own end, end), and its depth
+-- and rank.
 abbrev pub entryOf : Told → List ℕ
 entryOf t =
     t .number
     ∷ t .offset
     ∷ t .part .start
     ∷ t .part .size
-    ∷ t .unit .id
-    ∷ t .unit .action
-    ∷ t .unit .start
-    ∷ t .unit .own
-    ∷ t .unit .end
+    ∷ t .handed .unit .id
+    ∷ t .handed .unit .action
+    ∷ t .handed .unit .start
+    ∷ t .handed .unit .own
+    ∷ t .handed .unit .end
+    ∷ t .handed .depth
+    ∷ t .handed .rank
     ∷ []
 
 unfoldable pub entries : List Told → List ℕ
@@ -50,11 +53,11 @@ entries (t ∷ ts) = entryOf t ++ entries ts
 
 -- The log with these entries at its front; the rest stays.
 abbrev pub logAfter : List Told → List ℕ → List ℕ
-logAfter ts log = entries ts ++ drop (9 * length ts) log
+logAfter ts log = entries ts ++ drop (11 * length ts) log
 
 -- The log has no room for an entry of each call.
 abbrev pub tooShort : List ℕ → List ℕ → Bool
-tooShort codes log = ltb (length log / 9) (length codes)
+tooShort codes log = ltb (length log / 11) (length codes)
 
 -- What a replay leaves: 12 and nothing written where the log is too short; else 0, the log with an entry for each call of the run,
 -- and how many.

@@ -12,9 +12,9 @@ ghost use Rattle.cdf_reader_c.specs.Entries.{entryFrom};
 use cdf_reader_numbers::answer_to;
 use cdf_reader_spec::Call;
 
-// FIRST: judges the root and hands it out. A refused one writes 20 zeros as the place.
+// FIRST: judges the root and hands it out. A refused one writes 25 zeros as the place.
 #[no_mangle]
-pub extern "C" fn cdf_first(s: &[u8], place: &mut [u64; 20], answer: &mut [u64; 8]) -> u64
+pub extern "C" fn cdf_first(s: &[u8], place: &mut [u64; 25], answer: &mut [u64; 10]) -> u64
     ensures { λ r. ⌜ Called Start (now (s .entry)) (now (place .entry)) r (now (place .exit)) (now (answer .exit)) ⌝ }
 {
     answer_to(Call::Start, s, place, answer)
@@ -22,7 +22,7 @@ pub extern "C" fn cdf_first(s: &[u8], place: &mut [u64; 20], answer: &mut [u64; 
 
 // NEXT: hands out the next unit.
 #[no_mangle]
-pub extern "C" fn cdf_next(s: &[u8], place: &mut [u64; 20], answer: &mut [u64; 8]) -> u64
+pub extern "C" fn cdf_next(s: &[u8], place: &mut [u64; 25], answer: &mut [u64; 10]) -> u64
     ensures { λ r. ⌜ Called Next (now (s .entry)) (now (place .entry)) r (now (place .exit)) (now (answer .exit)) ⌝ }
 {
     answer_to(Call::Next, s, place, answer)
@@ -30,7 +30,7 @@ pub extern "C" fn cdf_next(s: &[u8], place: &mut [u64; 20], answer: &mut [u64; 8
 
 // SKIP: passes the last unit with all that is in it.
 #[no_mangle]
-pub extern "C" fn cdf_skip(s: &[u8], place: &mut [u64; 20], answer: &mut [u64; 8]) -> u64
+pub extern "C" fn cdf_skip(s: &[u8], place: &mut [u64; 25], answer: &mut [u64; 10]) -> u64
     ensures { λ r. ⌜ Called Skip (now (s .entry)) (now (place .entry)) r (now (place .exit)) (now (answer .exit)) ⌝ }
 {
     answer_to(Call::Skip, s, place, answer)
@@ -38,7 +38,7 @@ pub extern "C" fn cdf_skip(s: &[u8], place: &mut [u64; 20], answer: &mut [u64; 8
 
 // GET_STREAM: the same for a group, whose bytes are the part.
 #[no_mangle]
-pub extern "C" fn cdf_get_stream(s: &[u8], place: &mut [u64; 20], answer: &mut [u64; 8]) -> u64
+pub extern "C" fn cdf_get_stream(s: &[u8], place: &mut [u64; 25], answer: &mut [u64; 10]) -> u64
     ensures { λ r. ⌜ Called GetStream (now (s .entry)) (now (place .entry)) r (now (place .exit)) (now (answer .exit)) ⌝ }
 {
     answer_to(Call::GetStream, s, place, answer)
@@ -46,7 +46,7 @@ pub extern "C" fn cdf_get_stream(s: &[u8], place: &mut [u64; 20], answer: &mut [
 
 // PREVIOUS: hands out the last unit again; the place stays as it is, in every number.
 #[no_mangle]
-pub extern "C" fn cdf_previous(s: &[u8], place: &mut [u64; 20], answer: &mut [u64; 8]) -> u64
+pub extern "C" fn cdf_previous(s: &[u8], place: &mut [u64; 25], answer: &mut [u64; 10]) -> u64
     ensures { λ r. ⌜ Called Previous (now (s .entry)) (now (place .entry)) r (now (place .exit)) (now (answer .exit)) ⌝ }
 {
     answer_to(Call::Previous, s, place, answer)
@@ -54,11 +54,11 @@ pub extern "C" fn cdf_previous(s: &[u8], place: &mut [u64; 20], answer: &mut [u6
 
 // ABNORMAL_END: gives the reading up. 0, and zeros in the place and in the answer.
 #[no_mangle]
-pub extern "C" fn cdf_abnormal_end(s: &[u8], place: &mut [u64; 20], answer: &mut [u64; 8]) -> u64
+pub extern "C" fn cdf_abnormal_end(s: &[u8], place: &mut [u64; 25], answer: &mut [u64; 10]) -> u64
     ensures { λ r. ⌜ (r ≡ 0) × (now (place .exit) ≡ numbersOf noPlace) × (now (answer .exit) ≡ answerNumbers abnormalEnd noPart) ⌝ }
 {
-    *place = [0; 20];
-    *answer = [0; 8];
+    *place = [0; 25];
+    *answer = [0; 10];
     0
 }
 
@@ -89,9 +89,9 @@ fn call_by(code: u8) -> Call
 }
 
 // Writes an entry to the front of what is left of the log.
-fn write_entry(tail: &mut [u64], number: u64, answer: &[u64; 8])
-    requires { ⌜ 9 ≤ length (now tail) ⌝ }
-    ensures { λ r. ⌜ now (tail .exit) ≡ entryFrom number (now (answer .entry)) ++ drop 9 (now (tail .entry)) ⌝ }
+fn write_entry(tail: &mut [u64], number: u64, answer: &[u64; 10])
+    requires { ⌜ 11 ≤ length (now tail) ⌝ }
+    ensures { λ r. ⌜ now (tail .exit) ≡ entryFrom number (now (answer .entry)) ++ drop 11 (now (tail .entry)) ⌝ }
 {
     tail[0] = number;
     tail[1] = answer[0];
@@ -102,16 +102,18 @@ fn write_entry(tail: &mut [u64], number: u64, answer: &[u64; 8])
     tail[6] = answer[3];
     tail[7] = answer[4];
     tail[8] = answer[5];
+    tail[9] = answer[8];
+    tail[10] = answer[9];
 }
 
 // Runs the calls one after the other, and writes an entry for each.
 fn run(s: &[u8], calls: &[u8], log: &mut [u64]) -> usize
-    requires { ⌜ 9 * length (now calls) ≤ length (now log) ⌝ }
+    requires { ⌜ 11 * length (now calls) ≤ length (now log) ⌝ }
     ensures count { λ r. ⌜ r ≡ length (ranOf (now (s .entry)) (now (calls .entry))) ⌝ }
     ensures written { λ r. ⌜ now (log .exit) ≡ logAfter (ranOf (now (s .entry)) (now (calls .entry))) (now (log .entry)) ⌝ }
 {
-    let mut place = [0; 20];
-    let mut answer = [0; 8];
+    let mut place = [0; 25];
+    let mut answer = [0; 10];
     let mut k = 0;
     let mut at = 0;
     while k < calls.len() {
@@ -124,7 +126,7 @@ fn run(s: &[u8], calls: &[u8], log: &mut [u64]) -> usize
         let end = log.len();
         write_entry(&mut log[at..end], number, &answer);
         k = k + 1;
-        at = at + 9;
+        at = at + 11;
     }
     k
 }
@@ -135,7 +137,7 @@ fn run(s: &[u8], calls: &[u8], log: &mut [u64]) -> usize
 pub extern "C" fn cdf_replay(s: &[u8], calls: &[u8], log: &mut [u64], answer: &mut [u64; 1]) -> u64
     ensures { λ r. ⌜ Replayed (now (s .entry)) (now (calls .entry)) (now (log .entry)) r (now (log .exit)) (now (answer .exit)) ⌝ }
 {
-    if log.len() / 9 < calls.len() {
+    if log.len() / 11 < calls.len() {
         *answer = [0];
         return 12;
     }

@@ -1,2 +1,3 @@
 pub mod Closings
 pub mod Unclosed
+pub mod Levels

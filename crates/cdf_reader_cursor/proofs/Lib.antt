@@ -1,3 +1,4 @@
+pub mod Again
 pub mod Entered
 pub mod Starting
 pub mod Passed

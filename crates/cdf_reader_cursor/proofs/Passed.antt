@@ -18,6 +18,6 @@ skipped-top (suc k) top o1 o2 o3 = refl
 
 pub passed-is : (c : Cursor) →
     passed (cursorPlace c)
-    ≡ placeOf (c .last .end) (c .count) (withState (c .top) (skipped (c .top .state))) (c .o1) (c .o2) (c .o3) (c .last) false
+    ≡ placeOf (c .last .end) (c .count) (withState (c .top) (skipped (c .top .state))) (c .o1) (c .o2) (c .o3) (c .last) false (c .ranks)
 unfolding passed
 passed-is c = rw (skipped-top (c .count) (c .top) (c .o1) (c .o2) (c .o3))

@@ -13,8 +13,8 @@ use Rattle.cdf_unit_list.specs.declared.Unit.{Unit}
 use Rattle.cdf_unit_list.specs.declared.Open.{Open}
 use Rattle.cdf_unit_list.proofs.Entering.{unitFrom}
 use Rattle.cdf_unit_list.proofs.Stepping.{faults, enters, opened-parent}
-use Rattle.cdf_reader_spec.specs.Calls.{refuse, give, emptyPlace, stepped, firstOf}
-use Rattle.cdf_reader_spec.specs.Slots.{noOpen, around, openUnits, placeOf}
+use Rattle.cdf_reader_spec.specs.Calls.{refuse, emptyPlace, stepped, firstOf}
+use Rattle.cdf_reader_spec.specs.Slots.{noOpen, noRanks, around, openUnits, openRanks, placeOf}
 use Rattle.cdf_reader_spec.proofs.Replying.{first-is}
 
 module _ (l : Layout) (s : List ℕ) where
@@ -27,8 +27,14 @@ module _ (l : Layout) (s : List ℕ) where
   pub first-found : {id action own len state : ℕ} → judgeOf l true 0 s ≡ Found id action own len state →
       let u : Unit = record { id = id; action = action; start = 0; own = own; end = len } in
       let top : Open = record { state = state; start = 0; end = len } in
-      firstOf l s ≡ give u (placeOf own 1 top noOpen noOpen noOpen u true)
-  unfolding stepped openUnits around
+      firstOf l s
+      ≡ record {
+        number = 0;
+        offset = 0;
+        handed = record { unit = u; depth = 1; rank = 0 };
+        place = placeOf own 1 top noOpen noOpen noOpen u true noRanks;
+      }
+  unfolding stepped openUnits around openRanks
   first-found {id} {action} {own} {len} {state} e =
       let z = placed l true 0 s e in
       let first = root-first 0 id state (z .may) (z .some) in

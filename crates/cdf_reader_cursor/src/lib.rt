@@ -2,13 +2,17 @@
 // and the reader's calls are methods of its place; so what they are made of works on a cursor, which has the same parts.
 ghost use mathlib.Core.Path.{_≡_};
 ghost use Rattle.cdf_unit_prefix.specs.Layout.{layoutOf};
-ghost use Rattle.cdf_reader_spec.specs.Calls.{noUnit, moveTo, passed, firstOf};
-ghost use Rattle.cdf_reader_cursor.specs.Outcomes.{cursorPlace, outcomeReply, noCursor, refusal, moving};
-ghost use Rattle.cdf_reader_cursor.specs.Entering.{entering};
+ghost use Rattle.cdf_reader_spec.specs.Calls.{noUnit, noRanked, moveTo, passed, firstOf};
+ghost use Rattle.cdf_reader_cursor.specs.Outcomes.{cursorPlace, outcomeReply, noCursor, refusal, moving, handing};
+ghost use Rattle.cdf_reader_cursor.specs.Entering.{inside, entering};
 use cdf_reader_close::no_open;
+use cdf_reader_close::no_ranks;
+use cdf_reader_close::rank_at;
+use cdf_reader_spec::Ranks;
 use cdf_unit_judge::Judged;
 use cdf_unit_judge::judge_root;
 use cdf_unit_list::Open;
+use cdf_unit_list::Ranked;
 use cdf_unit_list::Unit;
 use cdf_unit_prefix::Edition;
 use cdf_unit_table::first_state;
@@ -24,13 +28,14 @@ pub struct Cursor {
     pub o3: Open,
     pub last: Unit,
     pub fresh: bool,
+    pub ranks: Ranks,
 }
 
 // What a call answers, with the cursor that it leads to.
 pub struct Outcome {
     pub number: usize,
     pub offset: usize,
-    pub unit: Unit,
+    pub handed: Ranked,
     pub cursor: Cursor,
 }
 
@@ -46,12 +51,24 @@ fn no_unit() -> Unit
     }
 }
 
+fn no_ranked() -> Ranked
+    ensures { λ r. ⌜ r ≡ noRanked ⌝ }
+{
+    let unit = no_unit();
+    Ranked {
+        unit,
+        depth: 0,
+        rank: 0,
+    }
+}
+
 // The cursor of the empty place, all zeros.
 pub fn no_cursor() -> Cursor
     ensures { λ r. ⌜ r ≡ noCursor ⌝ }
 {
     let o = no_open();
     let u = no_unit();
+    let ranks = no_ranks();
     Cursor {
         position: 0,
         count: 0,
@@ -61,6 +78,7 @@ pub fn no_cursor() -> Cursor
         o3: o,
         last: u,
         fresh: false,
+        ranks,
     }
 }
 
@@ -68,11 +86,11 @@ pub fn no_cursor() -> Cursor
 pub fn refused(number: usize, offset: usize, cursor: Cursor) -> Outcome
     ensures { λ r. ⌜ r ≡ refusal number offset cursor ⌝ }
 {
-    let none = no_unit();
+    let none = no_ranked();
     Outcome {
         number,
         offset,
-        unit: none,
+        handed: none,
         cursor,
     }
 }
@@ -81,11 +99,11 @@ pub fn refused(number: usize, offset: usize, cursor: Cursor) -> Outcome
 pub fn moved(cursor: Cursor) -> Outcome
     ensures { λ r. ⌜ r ≡ moving cursor ⌝ }
 {
-    let unit = no_unit();
+    let handed = no_ranked();
     Outcome {
         number: 0,
         offset: 0,
-        unit,
+        handed,
         cursor,
     }
 }
@@ -99,6 +117,7 @@ pub fn pass(c: Cursor) -> Outcome
     let o2 = c.o2;
     let o3 = c.o3;
     let last = c.last;
+    let ranks = c.ranks;
     let state = skipped_state(top.state);
     let skipped = Open {
         state,
@@ -114,15 +133,65 @@ pub fn pass(c: Cursor) -> Outcome
         o3,
         last,
         fresh: false,
+        ranks,
     };
     moved(cursor)
 }
 
+// Hands out a unit that admits others and is then in its first state, the innermost of so many; these are around it, with their ranks.
+fn inside(
+    handed: Ranked,
+    first: usize,
+    count: usize,
+    o1: Open,
+    o2: Open,
+    o3: Open,
+    r1: usize,
+    r2: usize,
+    r3: usize,
+) -> Outcome
+    ensures { λ r. ⌜ r ≡ handing handed (inside handed first count o1 o2 o3 r1 r2 r3) ⌝ }
+{
+    let unit = handed.unit;
+    let inner = Open {
+        state: first,
+        start: unit.start,
+        end: unit.end,
+    };
+    let ranks = Ranks {
+        top: handed.rank,
+        r1,
+        r2,
+        r3,
+        last: handed.rank,
+    };
+    let cursor = Cursor {
+        position: unit.own,
+        count,
+        top: inner,
+        o1,
+        o2,
+        o3,
+        last: unit,
+        fresh: true,
+        ranks,
+    };
+    Outcome {
+        number: 0,
+        offset: 0,
+        handed,
+        cursor,
+    }
+}
+
 // Hands out a unit that stands in the innermost of the `count` units left open, `top`, whose state is then the next. A unit that
 // admits others is opened.
-pub fn enter(c: Cursor, count: usize, top: Open, unit: Unit, next: usize) -> Outcome
-    ensures { λ r. ⌜ r ≡ entering c count top unit next ⌝ }
+pub fn enter(c: Cursor, count: usize, top: Open, handed: Ranked, next: usize) -> Outcome
+    ensures { λ r. ⌜ r ≡ entering c count top handed next ⌝ }
 {
+    let unit = handed.unit;
+    let rank = handed.rank;
+    let old = c.ranks;
     let outer = Open {
         state: next,
         start: top.start,
@@ -131,8 +200,16 @@ pub fn enter(c: Cursor, count: usize, top: Open, unit: Unit, next: usize) -> Out
     let o1 = c.o1;
     let o2 = c.o2;
     let o3 = c.o3;
+    let around = rank_at(count, c.count, old);
     let first = first_state(unit.id);
     if first == 0 {
+        let ranks = Ranks {
+            top: around,
+            r1: old.r1,
+            r2: old.r2,
+            r3: old.r3,
+            last: rank,
+        };
         let cursor = Cursor {
             position: unit.end,
             count,
@@ -142,71 +219,22 @@ pub fn enter(c: Cursor, count: usize, top: Open, unit: Unit, next: usize) -> Out
             o3,
             last: unit,
             fresh: false,
+            ranks,
         };
         return Outcome {
             number: 0,
             offset: 0,
-            unit,
+            handed,
             cursor,
         };
     }
-    let inner = Open {
-        state: first,
-        start: unit.start,
-        end: unit.end,
-    };
     if count == 1 {
-        let cursor = Cursor {
-            position: unit.own,
-            count: 2,
-            top: inner,
-            o1: outer,
-            o2,
-            o3,
-            last: unit,
-            fresh: true,
-        };
-        return Outcome {
-            number: 0,
-            offset: 0,
-            unit,
-            cursor,
-        };
+        return inside(handed, first, 2, outer, o2, o3, around, old.r2, old.r3);
     }
     if count == 2 {
-        let cursor = Cursor {
-            position: unit.own,
-            count: 3,
-            top: inner,
-            o1,
-            o2: outer,
-            o3,
-            last: unit,
-            fresh: true,
-        };
-        return Outcome {
-            number: 0,
-            offset: 0,
-            unit,
-            cursor,
-        };
+        return inside(handed, first, 3, o1, outer, o3, old.r1, around, old.r3);
     }
-    let cursor = Cursor {
-        position: unit.own,
-        count: 4,
-        top: inner,
-        o1,
-        o2,
-        o3: outer,
-        last: unit,
-        fresh: true,
-    };
-    Outcome {
-        number: 0,
-        offset: 0,
-        unit,
-        cursor,
-    }
+    inside(handed, first, 4, o1, o2, outer, old.r1, old.r2, around)
 }
 
 // The start of a stream of this edition: the root's rules, 3 to 9.
@@ -239,6 +267,7 @@ pub fn first_as(edition: Edition, s: &[u8]) -> Outcome
                 end: length,
             };
             let o = no_open();
+            let ranks = no_ranks();
             let cursor = Cursor {
                 position: own,
                 count: 1,
@@ -248,11 +277,17 @@ pub fn first_as(edition: Edition, s: &[u8]) -> Outcome
                 o3: o,
                 last: unit,
                 fresh: true,
+                ranks,
+            };
+            let handed = Ranked {
+                unit,
+                depth: 1,
+                rank: 0,
             };
             Outcome {
                 number: 0,
                 offset: 0,
-                unit,
+                handed,
                 cursor,
             }
         }

@@ -1,11 +1,12 @@
 -- Whether a place fits, by its parts and in the order of the code's tests.
-use Prim.Native.Nat.{ℕ, zero, suc, _+_, _≤_, _<_}
+use Prim.Native.Nat.{ℕ, zero, suc, _+_, _*_, _≤_, _<_}
 use mathlib.Core.Path.{_≡_, refl, sym, _∙_}
 use mathlib.Core.Bool.{Bool, true, false, not, _&&_, _||_, false≢true}
 use mathlib.Core.List.{List, _∷_}
 use native.Mathlib.Omega.{arith}
 use borrow.Author.Tests.{leb-true, le-leb, lt-leb, eqb-true, eq-eqb}
 use lib.Dec.{leb, eqb}
+use lib.ListN.{length}
 use Rattle.cdf_unit_table.specs.States.{unitOf, nothing}
 use Rattle.cdf_unit_table.proofs.Bools.{both}
 use Rattle.cdf_unit_table.proofs.Rows.{opens-by}
@@ -14,8 +15,10 @@ use Rattle.cdf_unit_prefix.specs.Layout.{Layout, prefixOf}
 use Rattle.cdf_unit_list.specs.declared.Unit.{Unit}
 use Rattle.cdf_unit_list.specs.declared.Open.{Open}
 use Rattle.cdf_reader_spec.specs.Place.{every, isState, positioned, atLast, fits}
-use Rattle.cdf_reader_spec.specs.Slots.{around, openUnits, placeOf}
+use Rattle.cdf_reader_spec.specs.Slots.{around, openUnits, openRanks, placeOf}
 use Rattle.cdf_reader_spec.specs.Tests.{chain, justEntered}
+use Rattle.cdf_reader_spec.specs.declared.Ranks.{Ranks}
+use Rattle.cdf_reader_spec.proofs.Counted.{length-open, length-held}
 use Rattle.cdf_reader_spec.proofs.Fitting.{Fitting, fitting, fits-true, flag-fact, flag-test}
 use Rattle.cdf_reader_spec.proofs.Opened.{kinds-states, at-most-four, chain-clauses, clauses-chain}
 
@@ -59,7 +62,12 @@ entered-last position o os u s e =
       y .1,
     )
 
-module _ (l : Layout) (n position count : ℕ) (top o1 o2 o3 : Open) (last : Unit) (fresh : Bool) where
+-- A struct has as many ranks as units.
+as-many : (count : ℕ) (ks : Ranks) (top o1 o2 o3 : Open) → length (openRanks count ks) ≡ length (openUnits count top o1 o2 o3)
+unfolding openRanks
+as-many count ks top o1 o2 o3 = length-held 0 count (ks .top) (ks .r1) (ks .r2) (ks .r3) ∙ sym (length-open count top o1 o2 o3)
+
+module _ (l : Layout) (n position count : ℕ) (top o1 o2 o3 : Open) (last : Unit) (fresh : Bool) (ks : Ranks) where
   -- What is asked of the position and of the flag is asked of the innermost unit, where there is one.
   top-position : (k : ℕ) → positioned l position (openUnits k top o1 o2 o3) ≡ true →
       (leb (top .start + prefixOf l) position ≡ true) × (leb position (top .end) ≡ true)
@@ -73,10 +81,10 @@ module _ (l : Layout) (n position count : ℕ) (top o1 o2 o3 : Open) (last : Uni
   top-last (suc k) e = last-entered position top (around o1 o2 o3 k) last e
 
   abbrev Fits : Bool
-  Fits = fits l n (placeOf position count top o1 o2 o3 last fresh)
+  Fits = fits l n (placeOf position count top o1 o2 o3 last fresh ks)
 
-  facts : Fits ≡ true → Fitting l n (placeOf position count top o1 o2 o3 last fresh)
-  facts = fitting l n (placeOf position count top o1 o2 o3 last fresh)
+  facts : Fits ≡ true → Fitting l n (placeOf position count top o1 o2 o3 last fresh ks)
+  facts = fitting l n (placeOf position count top o1 o2 o3 last fresh ks)
 
   pub past-not : leb (top .start + prefixOf l) position ≡ false → false ≡ Fits
   past-not e = no Fits (λ h. absurd (false≢true (sym e ∙ top-position count (facts h .position) .0)))
@@ -87,7 +95,7 @@ module _ (l : Layout) (n position count : ℕ) (top o1 o2 o3 : Open) (last : Uni
   abbrev Bounds : Bool
   Bounds = leb (last .start + prefixOf l) (last .own) && (leb (last .own) (last .end) && leb (last .end) n)
 
-  bounds : Fitting l n (placeOf position count top o1 o2 o3 last fresh) → Bounds ≡ true
+  bounds : Fitting l n (placeOf position count top o1 o2 o3 last fresh ks) → Bounds ≡ true
   bounds f =
       rw (
         le-leb (last .start + prefixOf l) (last .own) (f .own),
@@ -102,13 +110,25 @@ module _ (l : Layout) (n position count : ℕ) (top o1 o2 o3 : Open) (last : Uni
   last-not e =
       no Fits (λ h. absurd (false≢true (sym e ∙ flag-test fresh (justEntered position top last) (λ x. top-last count (facts h .last x)))))
 
+  -- The ranks of the open units, and the last unit's.
+  abbrev Lows : Bool
+  Lows = every (λ k. leb (k * prefixOf l) position) (ks .last ∷ openRanks count ks)
+
+  lows : Fitting l n (placeOf position count top o1 o2 o3 last fresh ks) → Lows ≡ true
+  unfolding every
+  lows f = rw (le-leb (ks .last * prefixOf l) position (f .lastRank), f .ranks)
+
+  pub ranks-not : Lows ≡ false → false ≡ Fits
+  ranks-not e = no Fits (λ h. absurd (false≢true (sym e ∙ lows (facts h))))
+
   -- All the other tests passed: it fits exactly if the open units do.
   module _ (low : leb (top .start + prefixOf l) position ≡ true) (high : position ≤ top .end) (bound : Bounds ≡ true)
-      (flag : (not fresh || justEntered position top last) ≡ true) where
-    fit : (k : ℕ) → chain l n (openUnits k top o1 o2 o3) ≡ true → Fitting l n (placeOf position k top o1 o2 o3 last fresh)
+      (flag : (not fresh || justEntered position top last) ≡ true) (ranked : Lows ≡ true) where
+    fit : (k : ℕ) → k ≡ count → chain l n (openUnits k top o1 o2 o3) ≡ true → Fitting l n (placeOf position k top o1 o2 o3 last fresh ks)
     unfolding openUnits chain positioned every
-    fit zero e = absurd (false≢true e)
-    fit (suc k) e =
+    fit zero same e = absurd (false≢true e)
+    fit (suc k) same e =
+        let r = both (leb (ks .last * prefixOf l) position) _ ranked in
         let os = top ∷ around o1 o2 o3 k in
         let w = chain-clauses l n os e in
         let states = kinds-states os (w .0) in
@@ -128,13 +148,16 @@ module _ (l : Layout) (n position count : ℕ) (top o1 o2 o3 : Open) (last : Uni
           last = λ x.
               entered-last position top (around o1 o2 o3 k) last (both (isState (top .state)) _ states .0)
               (flag-fact fresh (justEntered position top last) flag x);
+          each = as-many (suc k) ks top o1 o2 o3;
+          lastRank = leb-true (ks .last * prefixOf l) position (r .0);
+          ranks = rw same (r .1);
         }
 
     pub by-chain : chain l n (openUnits count top o1 o2 o3) ≡ Fits
     by-chain = go (chain l n (openUnits count top o1 o2 o3)) refl
       where
         go : (b : Bool) → chain l n (openUnits count top o1 o2 o3) ≡ b → b ≡ Fits
-        go true e = sym (fits-true l n (placeOf position count top o1 o2 o3 last fresh) (fit count e))
+        go true e = sym (fits-true l n (placeOf position count top o1 o2 o3 last fresh ks) (fit count refl e))
         go false e =
             no Fits (λ h. let f = facts h in
             absurd (false≢true (sym e ∙ clauses-chain l n (openUnits count top o1 o2 o3) (f .kinds) (f .starts) (f .ends))))

@@ -1,14 +1,18 @@
 // Whether a reader's place could belong to some bytes. The place is taken by its parts, which the reader's struct holds.
 ghost use mathlib.Core.Path.{_≡_};
-ghost use Rattle.cdf_unit_prefix.specs.Layout.{layoutOf};
-ghost use Rattle.cdf_reader_spec.specs.Place.{fits};
-ghost use Rattle.cdf_reader_spec.specs.Slots.{openUnits, placeOf};
+ghost use mathlib.Core.List.{_∷_};
+ghost use Prim.Native.Nat.{_*_, _/_};
+ghost use lib.Dec.{leb};
+ghost use Rattle.cdf_unit_prefix.specs.Layout.{layoutOf, prefixOf};
+ghost use Rattle.cdf_reader_spec.specs.Place.{every, fits};
+ghost use Rattle.cdf_reader_spec.specs.Slots.{openUnits, openRanks, placeOf};
 ghost use Rattle.cdf_reader_spec.specs.Tests.{chain};
 use cdf_reader_last::is_bounded;
 use cdf_reader_last::is_skippable;
 use cdf_reader_open::is_outermost;
 use cdf_reader_open::is_past;
 use cdf_reader_open::is_under;
+use cdf_reader_spec::Ranks;
 use cdf_unit_list::Open;
 use cdf_unit_list::Unit;
 use cdf_unit_prefix::Edition;
@@ -49,8 +53,29 @@ pub fn is_chain(
     false
 }
 
+// The highest rank at a position. A division by a constant, in a branch for each edition: a product with a caller's number may overflow.
+fn most_rank(edition: Edition, position: usize) -> usize
+    ensures { λ r. ⌜ r ≡ position / prefixOf (layoutOf edition) ⌝ }
+{
+    match edition {
+        Edition::First => position / 6,
+        Edition::Second => position / 8,
+    }
+}
+
+// Whether the last unit's rank and those of so many open units may stand at this position. Ranks that the count does not reach are not asked.
+pub fn is_ranked(edition: Edition, position: usize, count: usize, ranks: Ranks) -> bool
+    ensures { λ r. ⌜ r ≡ every (λ k. leb (k * prefixOf (layoutOf edition)) position) (ranks .last ∷ openRanks count ranks) ⌝ }
+{
+    let most = most_rank(edition, position);
+    (ranks.last <= most)
+        & (((count < 1) | (ranks.top <= most))
+            & (((count < 4) | (ranks.r3 <= most))
+                & (((count < 3) | (ranks.r2 <= most)) & ((count < 2) | (ranks.r1 <= most)))))
+}
+
 // Whether a place with these parts could belong to n bytes: `count` units are open, `top` the innermost, `o1` to `o3` the others
-// from the outermost inwards, and `last`, the last unit handed out, may still be skipped if `fresh`.
+// from the outermost inwards, and `last`, the last unit handed out, may still be skipped if `fresh`; `ranks` are theirs.
 pub fn fits(
     edition: Edition,
     n: usize,
@@ -62,8 +87,9 @@ pub fn fits(
     o3: Open,
     last: Unit,
     fresh: bool,
+    ranks: Ranks,
 ) -> bool
-    ensures { λ r. ⌜ r ≡ fits (layoutOf edition) n (placeOf position count top o1 o2 o3 last fresh) ⌝ }
+    ensures { λ r. ⌜ r ≡ fits (layoutOf edition) n (placeOf position count top o1 o2 o3 last fresh ranks) ⌝ }
 {
     if !is_past(edition, top.start, position) {
         return false;
@@ -75,6 +101,9 @@ pub fn fits(
         return false;
     }
     if !is_skippable(fresh, position, top, last) {
+        return false;
+    }
+    if !is_ranked(edition, position, count, ranks) {
         return false;
     }
     is_chain(edition, n, count, top, o1, o2, o3)

@@ -1,2 +1,4 @@
 pub mod Numbers
 pub mod Taking
+pub mod Samples
+pub mod Claims

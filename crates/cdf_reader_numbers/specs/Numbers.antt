@@ -18,9 +18,9 @@ use Rattle.cdf_reader.specs.declared.Place.{Place}
 abbrev pub openFrom : List ℕ → ℕ → ℕ → ℕ → Open
 openFrom a i j k = record { state = getD a i 0; start = getD a j 0; end = getD a k 0 }
 
--- The place that twenty numbers are: the position; how many units are open; the innermost open unit, then the others from the
--- root inwards; the last unit (id, action, start, own end, end); and whether that one may still be skipped, which any number but 0
--- says.
+-- The place that 25 numbers are: the position; how many units are open; the innermost open unit, then the others from the root inwards;
+-- the last unit (id, action, start, own end, end); whether that one may still be skipped, which any number but 0 says; and the ranks of the
+-- open units, in the same order, and of the last one.
 abbrev pub placeFrom : List ℕ → Place
 placeFrom a = record {
   position = getD a 0 0;
@@ -31,6 +31,7 @@ placeFrom a = record {
   o3 = openFrom a 11 12 13;
   last = record { id = getD a 14 0; action = getD a 15 0; start = getD a 16 0; own = getD a 17 0; end = getD a 18 0 };
   fresh = not (eqb (getD a 19 0) 0);
+  ranks = record { top = getD a 20 0; r1 = getD a 21 0; r2 = getD a 22 0; r3 = getD a 23 0; last = getD a 24 0 };
 }
 
 -- The numbers that are written of a place; the flag as 1 or 0.
@@ -56,19 +57,27 @@ numbersOf p =
     ∷ p .last .own
     ∷ p .last .end
     ∷ cond (p .fresh) 1 0
+    ∷ p .ranks .top
+    ∷ p .ranks .r1
+    ∷ p .ranks .r2
+    ∷ p .ranks .r3
+    ∷ p .ranks .last
     ∷ []
 
--- The eight numbers of an answer: the offset, the unit (id, action, start, own end, end), and the part's start and length.
+-- The ten numbers of an answer: the offset, the unit (id, action, start, own end, end), the part's start and length, and the unit's depth
+-- and rank.
 abbrev pub answerNumbers : Reply → Part → List ℕ
 answerNumbers r part =
     r .offset
-    ∷ r .unit .id
-    ∷ r .unit .action
-    ∷ r .unit .start
-    ∷ r .unit .own
-    ∷ r .unit .end
+    ∷ r .handed .unit .id
+    ∷ r .handed .unit .action
+    ∷ r .handed .unit .start
+    ∷ r .handed .unit .own
+    ∷ r .handed .unit .end
     ∷ part .start
     ∷ part .size
+    ∷ r .handed .depth
+    ∷ r .handed .rank
     ∷ []
 
 -- The reply and the part that are due to a call on the place that these numbers are.

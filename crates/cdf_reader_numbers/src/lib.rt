@@ -1,4 +1,4 @@
-// The reader's calls on plain numbers, as they cross to C: a place is 20 of them and an answer 8.
+// The reader's calls on plain numbers, as they cross to C: a place is 25 of them and an answer 10.
 ghost use mathlib.Core.Path.{_≡_};
 ghost use mathlib.Core.Bool.{true, cond};
 ghost use Prim.Native.Nat.{_≤_};
@@ -8,6 +8,7 @@ ghost use Rattle.cdf_reader_numbers.specs.Taking.{isTake, partBy};
 use cdf_reader::Answer;
 use cdf_reader::Place;
 use cdf_reader_spec::Call;
+use cdf_reader_spec::Ranks;
 use cdf_unit_list::Open;
 use cdf_unit_list::Unit;
 
@@ -18,7 +19,7 @@ struct Span {
 }
 
 // The place that the numbers are.
-fn place_from(a: &[u64; 20]) -> Place
+fn place_from(a: &[u64; 25]) -> Place
     ensures { λ r. ⌜ r ≡ placeFrom (now (a .entry)) ⌝ }
 {
     let top = Open {
@@ -48,6 +49,13 @@ fn place_from(a: &[u64; 20]) -> Place
         own: a[17] as usize,
         end: a[18] as usize,
     };
+    let ranks = Ranks {
+        top: a[20] as usize,
+        r1: a[21] as usize,
+        r2: a[22] as usize,
+        r3: a[23] as usize,
+        last: a[24] as usize,
+    };
     Place {
         position: a[0] as usize,
         count: a[1] as usize,
@@ -57,6 +65,7 @@ fn place_from(a: &[u64; 20]) -> Place
         o3,
         last,
         fresh: a[19] != 0,
+        ranks,
     }
 }
 
@@ -71,7 +80,7 @@ fn flag(on: bool) -> u64
 }
 
 // Writes the numbers of a place.
-fn write_place(p: Place, a: &mut [u64; 20])
+fn write_place(p: Place, a: &mut [u64; 25])
     ensures { λ r. ⌜ now (a .exit) ≡ numbersOf p ⌝ }
 {
     let fresh = flag(p.fresh);
@@ -96,22 +105,29 @@ fn write_place(p: Place, a: &mut [u64; 20])
         p.last.own as u64,
         p.last.end as u64,
         fresh,
+        p.ranks.top as u64,
+        p.ranks.r1 as u64,
+        p.ranks.r2 as u64,
+        p.ranks.r3 as u64,
+        p.ranks.last as u64,
     ];
 }
 
 // Writes the numbers of an answer.
-fn write_answer(r: Answer, part: Span, a: &mut [u64; 8])
+fn write_answer(r: Answer, part: Span, a: &mut [u64; 10])
     ensures { λ u. ⌜ now (a .exit) ≡ answerNumbers (replyOf r) (record { start = part .start; size = part .size }) ⌝ }
 {
     *a = [
         r.offset as u64,
-        r.unit.id as u64,
-        r.unit.action as u64,
-        r.unit.start as u64,
-        r.unit.own as u64,
-        r.unit.end as u64,
+        r.handed.unit.id as u64,
+        r.handed.unit.action as u64,
+        r.handed.unit.start as u64,
+        r.handed.unit.own as u64,
+        r.handed.unit.end as u64,
         part.start as u64,
         part.size as u64,
+        r.handed.depth as u64,
+        r.handed.rank as u64,
     ];
 }
 
@@ -158,7 +174,7 @@ fn is_kept(call: Call, number: usize) -> bool
 }
 
 // Any call: the number; the answer's numbers are written always, the place's unless they are kept.
-pub fn answer_to(call: Call, s: &[u8], place: &mut [u64; 20], answer: &mut [u64; 8]) -> u64
+pub fn answer_to(call: Call, s: &[u8], place: &mut [u64; 25], answer: &mut [u64; 10]) -> u64
     ensures { λ r. ⌜ Called call (now (s .entry)) (now (place .entry)) r (now (place .exit)) (now (answer .exit)) ⌝ }
 {
     let p = place_from(place);

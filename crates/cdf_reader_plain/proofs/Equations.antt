@@ -6,7 +6,7 @@ use mathlib.Core.Bool.{Bool, cond, _&&_}
 use mathlib.Core.List.{List, [], _∷_}
 use Rattle.cdf_unit_table.specs.States.{opens}
 use Rattle.cdf_unit_prefix.specs.Layout.{Layout}
-use Rattle.cdf_unit_list.specs.declared.Unit.{Unit}
+use Rattle.cdf_unit_list.specs.declared.Ranked.{Ranked}
 use Rattle.cdf_reader_spec.specs.Place.{ReaderPlace}
 use Rattle.cdf_reader_spec.specs.Calls.{Reply, Part, isGroup, emptyPlace, firstOf, nextOf, skipOf, takeOf, partOf, previousOf, noPart, callOf, partTaken}
 use Rattle.cdf_reader_spec.specs.declared.Call.{Call}
@@ -17,7 +17,7 @@ use Rattle.cdf_reader_plain.specs.Runs.{tells, readerRun, placeAfter, te
 
 -- What is told of a reply and a part.
 abbrev pub telling : Reply → Part → Told
-telling r part = record { number = r .number; offset = r .offset; part = part; unit = r .unit }
+telling r part = record { number = r .number; offset = r .offset; part = part; handed = r .handed }
 
 -- What passes a unit where that may be done, with the part taken.
 abbrev pub pass : Bool → Part → State → Turn
@@ -49,7 +49,7 @@ module _ (l : Layout) (s : List ℕ) (p : ReaderPlace) where
   previous-call = (refl, refl)
 
 -- Each call of the plain reader: its turn.
-module _ (first : Unit) (rest : List Unit) (st : State) where
+module _ (first : Ranked) (rest : List Ranked) (st : State) where
   pub start-turn : plainAnswer first rest st Start ≡ turn (handing first) (freshAt first rest)
   unfolding plainAnswer
   start-turn = refl
@@ -58,11 +58,11 @@ module _ (first : Unit) (rest : List Unit) (st : State) where
   unfolding plainAnswer
   next-turn = refl
 
-  pub skip-turn : plainAnswer first rest st Skip ≡ pass (st .fresh && opens (st .unit .id)) noPart st
+  pub skip-turn : plainAnswer first rest st Skip ≡ pass (st .fresh && opens (st .unit .unit .id)) noPart st
   unfolding plainAnswer
   skip-turn = refl
 
-  pub take-turn : plainAnswer first rest st GetStream ≡ pass (st .fresh && isGroup (st .unit .id)) (spanOf (st .unit)) st
+  pub take-turn : plainAnswer first rest st GetStream ≡ pass (st .fresh && isGroup (st .unit .unit .id)) (spanOf (st .unit .unit)) st
   unfolding plainAnswer
   take-turn = refl
 
@@ -89,7 +89,7 @@ module _ (l : Layout) (s : List ℕ) (p : ReaderPlace) where
     unfolding placeAfter
     place-on = refl
 
-module _ (first : Unit) (rest : List Unit) where
+module _ (first : Ranked) (rest : List Ranked) where
   module _ (st : State) where
     pub plain-none : plainFrom first rest st [] ≡ []
     unfolding plainFrom

@@ -1,6 +1,7 @@
 pub mod Groups
 pub mod Passing
 pub mod Later
+pub mod Skipped
 pub mod Equations
 pub mod Answers
 pub mod Numbers

@@ -8,7 +8,8 @@ use lib.ListN.{length, replicate}
 use Rattle.cdf_unit_prefix.specs.Layout.{Layout, prefixOf}
 use Rattle.cdf_unit_list.specs.Units.{listing}
 use Rattle.cdf_unit_list.specs.Check.{checkOf}
-use Rattle.cdf_unit_list.specs.declared.Unit.{Unit}
+use Rattle.cdf_unit_list.specs.Ranks.{rankedUnits}
+use Rattle.cdf_unit_list.specs.declared.Ranked.{Ranked}
 use Rattle.cdf_reader_spec.specs.Calls.{Reply, emptyPlace, firstOf, nextOf, noPart}
 use Rattle.cdf_reader_spec.specs.declared.Call.the-variants.{Start, Next}
 use Rattle.cdf_reader_runs.specs.Runs.{reading, Outcome, outcome, afterwards, due, handedOut}
@@ -30,7 +31,7 @@ front-same zero f g e = refl
 front-same (suc n) f g e = rw (e zero, front-same n (λ m. f (suc m)) (λ m. g (suc m)) (λ m. e (suc m)))
 
 -- What is due, entry by entry and as a list.
-all-handed : (last : Outcome) (us : List Unit) (n : ℕ) → front n (λ m. partless (due last us m)) ≡ handingAll n us (partless last)
+all-handed : (last : Outcome) (us : List Ranked) (n : ℕ) → front n (λ m. partless (due last us m)) ≡ handingAll n us (partless last)
 unfolding front due handingAll
 all-handed last us zero = refl
 all-handed last [] (suc n) = ap (λ ts. partless last ∷ ts) (all-handed last [] n)
@@ -81,14 +82,14 @@ module _ (l : Layout) (s : List ℕ) where
       (λ m. rw (reading-onward l s m)))
 
   pub nexts : (listing l s .units ≡ [] → ⊥) → (k : ℕ) →
-      readerRun l s emptyPlace (Start ∷ replicate k Next) ≡ handingAll (suc k) (listing l s .units) (everAfter (checkOf l s))
+      readerRun l s emptyPlace (Start ∷ replicate k Next) ≡ handingAll (suc k) (rankedUnits l s) (everAfter (checkOf l s))
   unfolding outcome
   nexts some k =
       let last = afterwards (checkOf l s) in
       nexts-reading k
-      ∙ front-same (suc k) (λ m. telling (reading l s m) noPart) (λ m. partless (due last (listing l s .units) m))
+      ∙ front-same (suc k) (λ m. telling (reading l s m) noPart) (λ m. partless (due last (rankedUnits l s) m))
       (λ m. ap partless (runs .reads l s some m))
-      ∙ all-handed last (listing l s .units) (suc k)
+      ∙ all-handed last (rankedUnits l s) (suc k)
 
   handed-counted : (n : ℕ) → handedOut l s n ≡ counted (λ m. reading l s m .number) n
   unfolding handedOut counted

@@ -5,7 +5,7 @@ use mathlib.Core.List.{List, [], _∷_}
 use native.Mathlib.Omega.{arith}
 use Rattle.cdf_unit_table.specs.States.{opens}
 use Rattle.cdf_unit_table.proofs.Bools.{of-cond}
-use Rattle.cdf_unit_list.specs.declared.Unit.{Unit}
+use Rattle.cdf_unit_list.specs.declared.Ranked.{Ranked}
 use Rattle.cdf_reader_spec.specs.Calls.{Part, isGroup, noPart}
 use Rattle.cdf_reader_spec.specs.declared.Call.{Call}
 use Rattle.cdf_reader_spec.specs.declared.Call.the-variants.{Start, Next, Skip, GetStream, Previous}
@@ -18,7 +18,7 @@ abbrev pub Apart : ℕ → Type 0
 Apart n = 1 < n → 10 < n
 
 -- Handing out a unit and passing one give such a number, and so does every call.
-hand-apart : (st : State) (us : List Unit) → Apart (handOut st us .told .number)
+hand-apart : (st : State) (us : List Ranked) → Apart (handOut st us .told .number)
 unfolding handOut
 hand-apart st [] = λ h. absurd (omega arith)
 hand-apart st (u ∷ us) = λ h. absurd (omega arith)
@@ -27,13 +27,13 @@ pass-apart : (may : Bool) (part : Part) (st : State) → Apart (pass may part st
 pass-apart may part st =
     of-cond (λ (t : Turn). Apart (t .told .number)) may _ _ (λ e h. absurd (omega arith)) (λ e h. omega arith)
 
-module _ (first : Unit) (rest : List Unit) where
+module _ (first : Ranked) (rest : List Ranked) where
   answer-apart : (st : State) (c : Call) → Apart (plainAnswer first rest st c .told .number)
   unfolding plainAnswer
   answer-apart st Start = λ h. absurd (omega arith)
   answer-apart st Next = hand-apart st (followers (first ∷ rest) st)
-  answer-apart st Skip = pass-apart (st .fresh && opens (st .unit .id)) noPart st
-  answer-apart st GetStream = pass-apart (st .fresh && isGroup (st .unit .id)) (spanOf (st .unit)) st
+  answer-apart st Skip = pass-apart (st .fresh && opens (st .unit .unit .id)) noPart st
+  answer-apart st GetStream = pass-apart (st .fresh && isGroup (st .unit .unit .id)) (spanOf (st .unit .unit)) st
   answer-apart st Previous = λ h. absurd (omega arith)
 
   -- So does each call of a run.

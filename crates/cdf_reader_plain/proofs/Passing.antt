@@ -5,26 +5,28 @@ use mathlib.Core.Path.{_≡_, refl, _∙_}
 use mathlib.Core.Bool.{Bool, true, false, not, _&&_, false≢true}
 use mathlib.Core.List.{List, [], _∷_}
 use native.Mathlib.Omega.{arith}
-use borrow.Author.Tests.{eqb-true, not-false}
+use borrow.Author.Tests.{eqb-true, ne-eqb, not-false}
 use lib.Dec.{eqb}
 use lib.ListN.{length}
 use Rattle.cdf_unit_table.specs.States.{unitOf, nothing, skipped}
 use Rattle.cdf_unit_table.proofs.Bools.{both, of-cond}
 use Rattle.cdf_unit_table.proofs.Skipping.{skipped-unit, skipped-complete}
 use Rattle.cdf_unit_prefix.specs.Layout.{Layout}
-use Rattle.cdf_unit_list.specs.Stack.{close, done, withState, stepIn, step}
+use Rattle.cdf_unit_list.specs.Stack.{close, Step, done, refused, found, withState, stepIn, step}
 use Rattle.cdf_unit_list.specs.declared.Unit.{Unit}
 use Rattle.cdf_unit_list.specs.declared.Open.{Open}
 use Rattle.cdf_unit_list.proofs.Stepping.{step-closes}
 use Rattle.cdf_reader_spec.specs.Place.{ReaderPlace, isEmpty, every, isState, atLast, fits}
 use Rattle.cdf_reader_spec.specs.Calls.{Reply, refuse, moveTo, stepped, nextOf, untouched, skippedTop, passed, passing, skipOf, isGroup, takeOf, partOf}
-use Rattle.cdf_reader_spec.specs.Calls.{previousOf}
+use Rattle.cdf_reader_spec.specs.Calls.{emptyPlace, give, placeAt, firstOf, previousOf}
 use Rattle.cdf_reader_spec.proofs.Fitting.{fitting, fits-true}
 use Rattle.cdf_reader_spec.proofs.Opened.{kinds-states, chain-clauses}
-use Rattle.cdf_reader_spec.proofs.Replying.{passing-tests, skip-is, take-is, part-is, previous-tests}
+use Rattle.cdf_reader_spec.proofs.Replying.{start, first-is, next-tests, passing-tests, skip-is, take-is, part-is, previous-tests}
+use Rattle.cdf_reader_runs.proofs.Ranking.{low-later}
 use Rattle.cdf_reader_runs.proofs.Around.{Around, lies, position-in, with-state, fitting-held}
+use Rattle.cdf_reader_runs.proofs.Keeps.{Keeps, first-keeps, next-keeps}
 use Rattle.cdf_reader_runs.proofs.Replies.{next-is}
-use Rattle.cdf_reader_plain.specs.Claims.{Fits}
+use Rattle.cdf_reader_plain.specs.Claims.{Fits, Again}
 
 -- The last unit ends where the innermost open one does, if it is that one.
 last-end : (position : ℕ) (o : Open) (os : List Open) (u : Unit) → atLast position (o ∷ os) u ≡ true → o .end ≡ u .end
@@ -73,7 +75,14 @@ module _ (l : Layout) (n : ℕ) where
       let chained = with-state l n (t .unit) (t .around) skip (skipped-unit (t .unit .state)) (t .held .chained) in
       let w = chain-clauses l n (withState (t .unit) skip ∷ t .around) chained in
       rw (t .units)
-      (fits-true l n (record { position = p .last .end; units = withState (t .unit) skip ∷ t .around; last = p .last; fresh = false }) (record {
+      (fits-true l n (record {
+        position = p .last .end;
+        units = withState (t .unit) skip ∷ t .around;
+        last = p .last;
+        fresh = false;
+        ranks = p .ranks;
+        lastRank = p .lastRank;
+      }) (record {
         some = omega arith;
         five = rw (t .units) at (f .five);
         kinds = w .0;
@@ -85,6 +94,9 @@ module _ (l : Layout) (n : ℕ) where
         end = f .end;
         within = f .within;
         last = λ z. absurd (false≢true z);
+        each = rw (t .units) at (f .each);
+        lastRank = omega (arith, f .lastRank, t .end);
+        ranks = low-later l (p .position) (p .last .end) (omega (arith, t .end)) (p .ranks) (f .ranks);
       }))
 
 -- The flag is on where the last unit is untouched.
@@ -114,6 +126,27 @@ module _ (l : Layout) (s : List ℕ) where
       (of-cond (Fits l s) (isEmpty p) (refuse 11 0 p) _ (λ e z. absurd (omega arith))
       (λ e. of-cond (Fits l s) (not (fits l (length s) p)) (refuse 2 0 p) _ (λ f z. absurd (omega arith))
       (λ f z. not-false (fits l (length s) p) f)))
+
+  -- At a place that fits it gives the last unit,
+  pub previous-is : (p : ReaderPlace) → fits l (length s) p ≡ true → previousOf l s p ≡ give p
+  unfolding isEmpty
+  previous-is p e = rw (previous-tests, ne-eqb (length (p .units)) 0 (λ z. omega (arith, fitting l (length s) p e .some)), e)
+
+  -- and so once more what a step gave.
+  stepped-again : (p : ReaderPlace) (x : Step) → Keeps l s p x → Again l s (stepped p x)
+  unfolding stepped
+  stepped-again p done k z = absurd (omega arith)
+  stepped-again p (refused n at) k z = absurd (k z)
+  stepped-again p (found u os pos) k z = previous-is (placeAt p u os pos) k
+
+  pub again : (p : ReaderPlace) → Again l s (firstOf l s) × Again l s (nextOf l s p)
+  again p = (
+    rw first-is (stepped-again emptyPlace (start l s) (first-keeps l s)),
+    rw next-tests
+        (of-cond (Again l s) (isEmpty p) (refuse 11 0 p) _ (λ e z. absurd (omega arith))
+        (λ e. of-cond (Again l s) (not (fits l (length s) p)) (refuse 2 0 p) _ (λ f z. absurd (omega arith))
+        (λ f. stepped-again p (step l s (p .units) (p .position)) (next-keeps l s p (not-false (fits l (length s) p) f))))),
+  )
 
   -- With no unit open a step is at the end.
   none-open : (pos : ℕ) → step l s [] pos ≡ done

@@ -9,7 +9,7 @@ use borrow.Author.Tests.{eq-eqb}
 use lib.ListN.{length}
 use Rattle.cdf_unit_table.proofs.Bools.{both}
 use Rattle.cdf_unit_prefix.specs.Layout.{Layout}
-use Rattle.cdf_unit_list.specs.declared.Unit.{Unit}
+use Rattle.cdf_unit_list.specs.declared.Ranked.{Ranked}
 use Rattle.cdf_grammar.specs.Trees.{Forest}
 use Rattle.cdf_grammar.specs.Encoding.{Stream}
 use Rattle.cdf_grammar.proofs.Items.{Rooted}
@@ -23,7 +23,7 @@ use Rattle.cdf_reader_plain.specs.Runs.{readerRun, placeAfter, tellsAfte
 use Rattle.cdf_reader_spec.proofs.Replying.{passing-tests, take-is, part-is}
 use Rattle.cdf_reader_plain.proofs.Equations.{start-call, take-call, next-turn, reader-none, reader-on, place-none, place-on}
 use Rattle.cdf_reader_plain.proofs.Equations.{plain-none, plain-on, state-none, state-on, plain-is, following-is, after-is}
-use Rattle.cdf_reader_plain.proofs.Answers.{Belongs, Same, start-same, call-same}
+use Rattle.cdf_reader_plain.proofs.Answers.{Belongs, Same, last-is, start-same, call-same}
 use Rattle.cdf_reader_plain.proofs.Streams.{Readable, group-stream}
 
 module _ (l : Layout) (s : List ℕ) where
@@ -42,7 +42,7 @@ module _ (l : Layout) (s : List ℕ) where
       partOf l s p ≡ spanOf (p .last)
   take-part p z = rw (part-is, eq-eqb (takeOf l s p .number) 0 z)
 
-  module _ (first : Unit) (rest : List Unit) (r : Readable l s first rest) where
+  module _ (first : Ranked) (rest : List Ranked) (r : Readable l s first rest) where
     -- The place and the state belong together.
     abbrev Together : ReaderPlace → State → Type 0
     Together = Belongs l s first rest (Rooted l s)
@@ -55,11 +55,11 @@ module _ (l : Layout) (s : List ℕ) where
     begun : Same l s first rest (Rooted l s) (callOf l s emptyPlace Start) (partTaken l s emptyPlace Start) (turn (handing first) started)
     begun =
         let asks = start-call l s emptyPlace in
-        rw (asks .0, asks .1) (start-same l s first rest (Rooted l s) (r .each) (r .run))
+        rw (asks .0, asks .1) (start-same l s first rest (Rooted l s) (r .units) (r .are) (r .each) (r .run))
 
     called : (p : ReaderPlace) (st : State) → Together p st → (c : Call) →
         Same l s first rest (Rooted l s) (callOf l s p c) (partTaken l s p c) (plainAnswer first rest st c)
-    called = call-same l s first rest (Rooted l s) (r .each) (r .run)
+    called = call-same l s first rest (Rooted l s) (r .units) (r .are) (r .each) (r .run)
 
     -- So do any calls: the answers are equal, and the last place belongs to the last state;
     runs-same : (cs : List Call) (p : ReaderPlace) (st : State) → Together p st → readerRun l s p cs ≡ plainFrom first rest st cs
@@ -88,12 +88,12 @@ module _ (l : Layout) (s : List ℕ) where
         let st = stateFrom first rest started cs in
         after-is l s cs Next ∙ called p st (after cs) Next .told ∙ rw (next-turn first rest st, following-is)
 
-    pub follows : (cs : List Call) (u : Unit) (us : List Unit) → following first rest cs ≡ u ∷ us → tellsAfter l s cs Next ≡ handing u
+    pub follows : (cs : List Call) (u : Ranked) (us : List Ranked) → following first rest cs ≡ u ∷ us → tellsAfter l s cs Next ≡ handing u
     unfolding handOut
     follows cs u us e = next-told cs ∙ rw e
 
     -- It is 1 exactly where none follows.
-    end-number : (st : State) (us : List Unit) → (handOut st us .told .number ≡ 1) ↔ (us ≡ [])
+    end-number : (st : State) (us : List Ranked) → (handOut st us .told .number ≡ 1) ↔ (us ≡ [])
     unfolding handOut
     end-number st [] = (λ e. refl, λ e. refl)
     end-number st (u ∷ us) = (λ e. absurd (omega arith), λ e. absurd (cons≢nil e))
@@ -109,4 +109,5 @@ module _ (l : Layout) (s : List ℕ) where
         let asks = take-call l s p in
         let w : takeOf l s p .number ≡ 0 = rw (after-is l s cs GetStream, asks .0) at z in
         let b = after cs in
-        rw (after-is l s cs GetStream, asks .1, take-part p w) (group-stream l s (p .last) short (rw (b .last) (b .here)) (take-group p w))
+        let last = last-is l s first rest (Rooted l s) (r .units) (r .are) (r .each) (r .run) p (stateFrom first rest started cs) b in
+        rw (after-is l s cs GetStream, asks .1, take-part p w) (group-stream l s (p .last) short (rw last (b .here)) (take-group p w))

@@ -3,7 +3,7 @@ use Prim.Native.Nat.{ℕ}
 use mathlib.Core.List.{List, [], _∷_, map}
 use lib.ListN.{take, drop, getD}
 use Rattle.cdf_unit_prefix.specs.Layout.{Layout}
-use Rattle.cdf_unit_list.specs.declared.Unit.{Unit}
+use Rattle.cdf_unit_list.specs.declared.Ranked.{Ranked}
 use Rattle.cdf_reader_spec.specs.Place.{ReaderPlace}
 use Rattle.cdf_reader_spec.specs.Calls.{Part, emptyPlace, callOf, partTaken}
 use Rattle.cdf_reader_spec.specs.declared.Call.{Call}
@@ -17,7 +17,7 @@ tells l s p c = record {
   number = callOf l s p c .number;
   offset = callOf l s p c .offset;
   part = partTaken l s p c;
-  unit = callOf l s p c .unit;
+  handed = callOf l s p c .handed;
 }
 
 -- The reader, from a place on: what it tells of each call, and the place after them.
@@ -37,24 +37,24 @@ unfolding callOf partTaken placeAfter
 tellsAfter l s calls c = tells l s (placeAfter l s emptyPlace (Start ∷ calls)) c
 
 -- The plain reader, from a state on: what it tells of each call, and the state after them.
-unfoldable pub plainFrom : Unit → List Unit → State → List Call → List Told
+unfoldable pub plainFrom : Ranked → List Ranked → State → List Call → List Told
 unfolding plainAnswer
 plainFrom first rest st [] = []
 plainFrom first rest st (c ∷ cs) =
     plainAnswer first rest st c .told ∷ plainFrom first rest (plainAnswer first rest st c .state) cs
 
-unfoldable pub stateFrom : Unit → List Unit → State → List Call → State
+unfoldable pub stateFrom : Ranked → List Ranked → State → List Call → State
 unfolding plainAnswer
 stateFrom first rest st [] = st
 stateFrom first rest st (c ∷ cs) = stateFrom first rest (plainAnswer first rest st c .state) cs
 
 -- It begins with a start: the first unit, fresh.
-unfoldable pub plainRun : Unit → List Unit → List Call → List Told
+unfoldable pub plainRun : Ranked → List Ranked → List Call → List Told
 unfolding plainFrom
 plainRun first rest calls = handing first ∷ plainFrom first rest (freshAt first rest) calls
 
 -- The units that follow after a start and these calls.
-unfoldable pub following : Unit → List Unit → List Call → List Unit
+unfoldable pub following : Ranked → List Ranked → List Call → List Ranked
 unfolding followers stateFrom
 following first rest calls = followers (first ∷ rest) (stateFrom first rest (freshAt first rest) calls)
 

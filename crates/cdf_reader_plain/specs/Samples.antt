@@ -3,27 +3,29 @@ use Prim.Native.Nat.{ℕ}
 use mathlib.Core.List.{List, [], _∷_}
 use lib.ListN.{set}
 use Rattle.cdf_unit_list.specs.Samples.{k1}
-use Rattle.cdf_unit_list.specs.declared.Unit.{Unit}
-use Rattle.cdf_reader_spec.specs.Calls.{noUnit, noPart}
+use Rattle.cdf_unit_list.specs.declared.Ranked.{Ranked}
+use Rattle.cdf_reader_spec.specs.Calls.{noRanked, noPart}
 use Rattle.cdf_reader_spec.specs.declared.Call.{Call}
 use Rattle.cdf_reader_spec.specs.declared.Call.the-variants.{Start, Next, Skip, GetStream, Previous}
 use Rattle.cdf_reader_plain.specs.Calls.{Told, handing, taking, saying}
 
-abbrev unit : ℕ → ℕ → ℕ → ℕ → ℕ → Unit
-unit id action from own end = record { id = id; action = action; start = from; own = own; end = end }
+-- A unit, its depth and its rank.
+abbrev unit : ℕ → ℕ → ℕ → ℕ → ℕ → ℕ → ℕ → Ranked
+unit id action from own end depth rank =
+    record { unit = record { id = id; action = action; start = from; own = own; end = end }; depth = depth; rank = rank }
 
 -- of K2: the group, its template, and the template's key and field
-abbrev pub group : Unit
-group = unit 4 0 0 6 46
+abbrev pub group : Ranked
+group = unit 4 0 0 6 46 1 0
 
-abbrev pub template : Unit
-template = unit 5 1 6 19 46
+abbrev pub template : Ranked
+template = unit 5 1 6 19 46 2 0
 
-abbrev pub key : Unit
-key = unit 6 0 19 29 29
+abbrev pub key : Ranked
+key = unit 6 0 19 29 29 3 0
 
-abbrev pub field : Unit
-field = unit 8 1 29 43 46
+abbrev pub field : Ranked
+field = unit 8 1 29 43 46 3 1
 
 -- 0, and that many bytes from a position on.
 abbrev bytes : ℕ → ℕ → Told
@@ -43,11 +45,11 @@ k2Answers =
     ∷ handing group ∷ bytes 0 46 ∷ saying 1 ∷ handing group ∷ []
 
 -- of K12: the stream and its function call, in which there is nothing
-abbrev pub stream : Unit
-stream = unit 1 0 0 6 18
+abbrev pub stream : Ranked
+stream = unit 1 0 0 6 18 1 0
 
-abbrev pub call : Unit
-call = unit 2 0 6 18 18
+abbrev pub call : Ranked
+call = unit 2 0 6 18 18 2 0
 
 -- The call is skipped past the end, and then the stream; neither is a group.
 abbrev pub k12Calls : List Call
@@ -64,12 +66,12 @@ k12Answers =
 abbrev pub k6 : List ℕ
 k6 = set k1 9 0x0b
 
-abbrev file : Unit
-file = unit 13 0 0 6 16
+abbrev file : Ranked
+file = unit 13 0 0 6 16 1 0
 
 -- 5 at the line.
 abbrev atLine : Told
-atLine = record { number = 5; offset = 6; part = noPart; unit = noUnit }
+atLine = record { number = 5; offset = 6; part = noPart; handed = noRanked }
 
 -- The group is skipped and taken as if nothing were wrong in it.
 abbrev pub k6Calls : List Call

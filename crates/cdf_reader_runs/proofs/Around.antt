@@ -1,6 +1,6 @@
 -- Open units that lie in one another and have a position in the innermost: when a place with them fits.
-use Prim.Native.Nat.{ℕ, _+_, _≤_}
-use mathlib.Core.Path.{_≡_, refl}
+use Prim.Native.Nat.{ℕ, suc, _+_, _*_, _≤_}
+use mathlib.Core.Path.{_≡_, refl, ap}
 use mathlib.Core.Bool.{Bool, true, false, cond, false≢true}
 use mathlib.Core.List.{List, [], _∷_}
 use native.Mathlib.Omega.{arith}
@@ -17,10 +17,13 @@ use Rattle.cdf_unit_list.specs.declared.Unit.{Unit}
 use Rattle.cdf_unit_list.specs.declared.Open.{Open}
 use Rattle.cdf_unit_list.proofs.Stepping.{fresh}
 use Rattle.cdf_reader_spec.specs.Place.{ReaderPlace, nested, positioned, atLast, fits}
+use Rattle.cdf_reader_spec.specs.Closing.{unclosedRanks}
+use Rattle.cdf_reader_spec.specs.Ranking.{nextRank}
 use Rattle.cdf_reader_spec.specs.Calls.{placeAt}
 use Rattle.cdf_reader_spec.specs.Tests.{under, chain}
-use Rattle.cdf_reader_spec.proofs.Fitting.{fitting, fits-true}
+use Rattle.cdf_reader_spec.proofs.Fitting.{Low, fitting, fits-true}
 use Rattle.cdf_reader_spec.proofs.Opened.{kinds-states, at-most-four, chain-clauses, clauses-chain}
+use Rattle.cdf_reader_runs.proofs.Ranking.{Ranked, low-later, low-on}
 
 module _ (l : Layout) where
   -- The position lies in the innermost unit, past its prefix: the test as a fact, and back.
@@ -125,10 +128,11 @@ module _ (l : Layout) (n : ℕ) where
     pub parent : opens (u .id) ≡ true → chain l n (fresh u ∷ os) ≡ true
     pub leaf : opens (u .id) ≡ false → Around (u .end) os
 
-  -- A place fits that has such a unit as its last, with units open around its position.
+  -- A place fits that has such a unit as its last, with units open around its position and ranks that are low.
   fits-around : (p : ReaderPlace) {os : List Open} → Enters (p .last) os → Around (p .position) (p .units) →
-      (p .fresh ≡ true → atLast (p .position) (p .units) (p .last) ≡ true) → fits l n p ≡ true
-  fits-around p e a last =
+      (p .fresh ≡ true → atLast (p .position) (p .units) (p .last) ≡ true) → length (p .ranks) ≡ length (p .units) →
+      p .lastRank * prefixOf l ≤ p .position → Low l (p .position) (p .ranks) → fits l n p ≡ true
+  fits-around p e a last each lastRank ranks =
       let w = chain-clauses l n (p .units) (a .chained) in
       fits-true l n p (record {
         some = some (p .units) (a .chained);
@@ -142,6 +146,9 @@ module _ (l : Layout) (n : ℕ) where
         end = e .end;
         within = e .within;
         last = last;
+        each = each;
+        lastRank = lastRank;
+        ranks = ranks;
       })
 
   -- A unit that was just entered is the last one, as the clause on the flag asks.
@@ -158,18 +165,31 @@ module _ (l : Layout) (n : ℕ) where
         eq-eqb (u .own) (u .own) refl,
       )
 
-  -- After a unit that is entered the place fits.
-  pub enters-fit : (u : Unit) (os : List Open) → Enters u os → fits l n (placeAt u (opened u os) (after u)) ≡ true
+  -- After a unit that is entered from a place whose ranks are low the place fits.
+  pub enters-fit : (p : ReaderPlace) (u : Unit) (os : List Open) → Enters u os → Ranked l p (u .start) os →
+      fits l n (placeAt p u (opened u os) (after u)) ≡ true
   unfolding opened after
-  enters-fit u os e = go (opens (u .id)) refl
+  enters-fit p u os e r = go (opens (u .id)) refl
     where
+      left : List ℕ
+      left = unclosedRanks (p .units) (p .ranks) (p .position)
+
       go : (b : Bool) → opens (u .id) ≡ b →
-          fits l n (record { position = cond b (u .own) (u .end); units = cond b (fresh u ∷ os) os; last = u; fresh = b }) ≡ true
+          fits l n (record {
+            position = cond b (u .own) (u .end);
+            units = cond b (fresh u ∷ os) os;
+            last = u;
+            fresh = b;
+            ranks = cond b (nextRank p ∷ left) left;
+            lastRank = nextRank p;
+          }) ≡ true
       go true x =
           let a : Around (u .own) (fresh u ∷ os) = record {
             chained = e .parent x;
             position = position-in l (u .own) (fresh u) os (e .own) (e .end);
           } in
-          fits-around (record { position = u .own; units = fresh u ∷ os; last = u; fresh = true }) e a (λ _. fresh-last u os x)
+          fits-around _ e a (λ _. fresh-last u os x) (ap suc (r .each)) (omega (arith, r .next, e .own))
+          (low-on l (u .own) (nextRank p) left (omega (arith, r .next, e .own)) (low-later l (u .start) (u .own) (omega (arith, e .own)) left (r .low)))
       go false x =
-          fits-around (record { position = u .end; units = os; last = u; fresh = false }) e (e .leaf x) (λ z. absurd (false≢true z))
+          fits-around _ e (e .leaf x) (λ z. absurd (false≢true z)) (r .each) (omega (arith, r .next, e .own, e .end))
+          (low-later l (u .start) (u .end) (omega (arith, e .own, e .end)) left (r .low))

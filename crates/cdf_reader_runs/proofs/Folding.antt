@@ -1,6 +1,6 @@
 -- A loop of a start and nexts that folds the units it is handed.
 use Prim.Native.Nat.{ℕ, _+_, _≤_}
-use mathlib.Core.Path.{_≡_, refl, ap}
+use mathlib.Core.Path.{_≡_, refl, ap, _∙_}
 use mathlib.Core.List.{List, [], _∷_, foldl, reverseAux}
 use native.Mathlib.Omega.{arith}
 use borrow.Author.Tests.{ne-eqb}
@@ -9,7 +9,9 @@ use Rattle.cdf_unit_prefix.specs.Layout.{Layout, prefixOf}
 use Rattle.cdf_unit_list.specs.Units.{End, listing}
 use Rattle.cdf_unit_list.specs.Check.{answerOf, checkOf}
 use Rattle.cdf_unit_list.specs.Stack.{Step}
+use Rattle.cdf_unit_list.specs.Ranks.{standing, ranked, rankedUnits}
 use Rattle.cdf_unit_list.specs.declared.Unit.{Unit}
+use Rattle.cdf_unit_list.specs.declared.Ranked.{Ranked}
 use Rattle.cdf_unit_list.proofs.Proved.{proved}
 use Rattle.cdf_reader_spec.specs.Place.{ReaderPlace}
 use Rattle.cdf_reader_spec.specs.Calls.{Reply, stepped, firstOf, nextOf}
@@ -27,13 +29,21 @@ module _ (l : Layout) (s : List ℕ) where
   ends-number (at-fault {n} {at}) q p =
       let some = ne-eqb n 0 (λ z. omega (arith, proved .numbered l s q)) in (rw (check-is l s, q, some), rw (check-is l s, q, some))
 
-module _ {A : Type 0} (fold : A → Unit → A) (l : Layout) (s : List ℕ) (none : A) where
+-- A fold of the units alone looks at no depth and no rank.
+pub unranked : {A : Type 0} (fold : A → Unit → A) (h : A) (us vs : List Unit) →
+    foldl (λ (x : A) (r : Ranked). fold x (r .unit)) h (ranked us vs) ≡ foldl fold h vs
+unfolding ranked standing
+unranked fold h us [] = refl
+unranked fold h us (v ∷ vs) = unranked fold (fold h v) (v ∷ us) vs
+
+module _ {A : Type 0} (fold : A → Ranked → A) (l : Layout) (s : List ℕ) (none : A) where
   -- The fold of units, the last one first.
   abbrev gathered : List Unit → A
   gathered [] = none
-  gathered (u ∷ us) = fold (gathered us) u
+  gathered (u ∷ us) = fold (gathered us) (standing us u)
 
-  gather-on : (before us : List Unit) → foldl fold none (reverseAux before us) ≡ foldl fold (gathered before) us
+  gather-on : (before us : List Unit) → foldl fold none (ranked [] (reverseAux before us)) ≡ foldl fold (gathered before) (ranked before us)
+  unfolding ranked
   gather-on [] us = refl
   gather-on (u ∷ before) us = gather-on before (u ∷ us)
 
@@ -47,15 +57,16 @@ module _ {A : Type 0} (fold : A → Unit → A) (l : Layout) (s : List ℕ) (non
   begun a e = record { before = []; going = loop.begun l s a e; has = refl }
 
   -- The fold of all units, from this one on.
-  pub folded : (a : Reply) (h : A) (g : Going a h) → foldl fold none (listing l s .units) ≡ foldl fold h (g .going .units)
+  pub folded : (a : Reply) (h : A) (g : Going a h) → foldl fold none (rankedUnits l s) ≡ foldl fold h (ranked (g .before) (g .going .units))
+  unfolding rankedUnits
   folded a h g = rw (g .going .all, g .has) (gather-on (g .before) (g .going .units))
 
   -- A unit was handed out: it lies in the bytes, and it is folded in.
   pub record Turn (a : Reply) (h : A) : Type 0 where
-    pub own : a .unit .start + prefixOf l ≤ a .unit .own
-    pub end : a .unit .own ≤ a .unit .end
-    pub within : a .unit .end ≤ length s
-    pub next : Going (nextOf l s (a .place)) (fold h (a .unit))
+    pub own : a .handed .unit .start + prefixOf l ≤ a .handed .unit .own
+    pub end : a .handed .unit .own ≤ a .handed .unit .end
+    pub within : a .handed .unit .end ≤ length s
+    pub next : Going (nextOf l s (a .place)) (fold h (a .handed))
 
   pub turned : (a : Reply) (h : A) → Going a h → a .number ≡ 0 → Turn a h
   turned a h g z =
@@ -64,16 +75,21 @@ module _ {A : Type 0} (fold : A → Unit → A) (l : Layout) (s : List ℕ) (non
         own = t .own;
         end = t .end;
         within = t .within;
-        next = record { before = a .unit ∷ g .before; going = t .next; has = ap (λ (x : A). fold x (a .unit)) (g .has) };
+        next = record {
+          before = a .handed .unit ∷ g .before;
+          going = t .next;
+          has = ap (λ (x : A). fold x (a .handed)) (g .has) ∙ ap (fold (gathered (g .before))) (t .ranked);
+        };
       }
 
   -- No unit was handed out: what there is of the units is all, and the number is that of the end.
   pub record Over (a : Reply) (h : A) : Type 0 where
-    pub all : foldl fold none (listing l s .units) ≡ h
+    pub all : foldl fold none (rankedUnits l s) ≡ h
     pub number : a .number ≡ afterwards (checkOf l s) .number
     pub offset : a .offset ≡ afterwards (checkOf l s) .offset
 
   pub over : (a : Reply) (h : A) → Going a h → (a .number ≡ 0 → ⊥) → Over a h
+  unfolding rankedUnits ranked
   over a h g some =
       let o = loop.over l s (g .before) a (g .going) some in
       let end = rw (← o .is) at (ends-number l s (o .stops) refl (o .place)) in

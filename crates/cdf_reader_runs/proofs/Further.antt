@@ -21,7 +21,7 @@ module _ (l : Layout) (s : List ℕ) where
   abbrev Later : ℕ → Reply → Type 0
   Later pos r = r .number ≡ 0 → (pos < r .place .position) × (r .place .position ≤ length s)
 
-  stepped-later : (pos : ℕ) (p : ReaderPlace) (x : Step) → Further l s pos x → Keeps l s x → Later pos (stepped p x)
+  stepped-later : (pos : ℕ) (p : ReaderPlace) (x : Step) → Further l s pos x → Keeps l s p x → Later pos (stepped p x)
   unfolding stepped
   stepped-later pos p done f k e = absurd (omega arith)
   stepped-later pos p (refused n at) f k e = absurd (k e)

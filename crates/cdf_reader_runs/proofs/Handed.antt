@@ -6,15 +6,18 @@ use native.Mathlib.Omega.{arith}
 use native.Mathlib.Nat.{mul-le-mul-right}
 use borrow.Author.Tests.{eqb-true, eqb-false}
 use lib.Dec.{eqb}
-use lib.ListN.{length}
+use lib.ListN.{length, length-map}
 use Rattle.cdf_unit_table.proofs.Bools.{of-cond, clash}
 use Rattle.cdf_unit_prefix.specs.Layout.{Layout, prefixOf}
 use Rattle.cdf_unit_list.specs.Units.{End, listing}
 use Rattle.cdf_unit_list.specs.Stack.{Step}
 use Rattle.cdf_unit_list.specs.Check.{Verdict, checkOf}
+use Rattle.cdf_unit_list.specs.Ranks.{ranked, rankedUnits}
 use Rattle.cdf_unit_list.specs.declared.Unit.{Unit}
+use Rattle.cdf_unit_list.specs.declared.Ranked.{Ranked}
+use Rattle.cdf_unit_list.proofs.Low.{ranked-units}
 use Rattle.cdf_unit_list.proofs.Proved.{proved}
-use Rattle.cdf_reader_spec.specs.Calls.{Reply, emptyPlace, noUnit, stepped}
+use Rattle.cdf_reader_spec.specs.Calls.{Reply, emptyPlace, noRanked, stepped}
 use Rattle.cdf_reader_runs.specs.Runs.{reading, Outcome, outcome, afterwards, due, handedOut}
 use Rattle.cdf_reader_runs.proofs.Keeps.{Keeps, first-keeps}
 use Rattle.cdf_reader_spec.proofs.Replying.{first-is}
@@ -26,15 +29,19 @@ use Rattle.cdf_reader_runs.proofs.Readings.{reading-first, reading-next
 afterwards-none : (a : Verdict) → afterwards a .number ≡ 0 → ⊥
 unfolding afterwards
 afterwards-none a =
-    of-cond (λ (t : Outcome). t .number ≡ 0 → ⊥) (eqb (a .number) 0) _ (record { number = a .number; offset = a .value; unit = noUnit })
+    of-cond (λ (t : Outcome). t .number ≡ 0 → ⊥) (eqb (a .number) 0) _ (record { number = a .number; offset = a .value; handed = noRanked })
     (λ e z. omega arith) (λ e. eqb-false (a .number) 0 e)
 
 -- So 0 is due only of the units.
-due-zero : (last : Outcome) → (last .number ≡ 0 → ⊥) → (us : List Unit) (k : ℕ) → due last us k .number ≡ 0 → k < length us
+due-zero : (last : Outcome) → (last .number ≡ 0 → ⊥) → (us : List Ranked) (k : ℕ) → due last us k .number ≡ 0 → k < length us
 unfolding due
 due-zero last none [] k z = absurd (none z)
 due-zero last none (u ∷ us) zero z = omega arith
 due-zero last none (u ∷ us) (suc k) z = omega (arith, due-zero last none us k z)
+
+-- With depth and rank they are as many.
+length-ranked : (us vs : List Unit) → length (ranked us vs) ≡ length vs
+length-ranked us vs = sym (length-map (ranked us vs) (λ r. r .unit)) ∙ ap length (ranked-units us vs)
 
 module _ (l : Layout) (s : List ℕ) where
   -- A refusal with the empty place: so answers a start where no unit is listed, and every next after it.
@@ -42,7 +49,7 @@ module _ (l : Layout) (s : List ℕ) where
     number : r .number ≡ 0 → ⊥
     place : r .place ≡ emptyPlace
 
-  start-refused : {x : Step} {us : List Unit} {e : End} → Run l s x us e → us ≡ [] → Keeps l s x → Refused (stepped emptyPlace x)
+  start-refused : {x : Step} {us : List Unit} {e : End} → Run l s x us e → us ≡ [] → Keeps l s emptyPlace x → Refused (stepped emptyPlace x)
   unfolding stepped
   start-refused ends none keeps = record { number = λ z. omega arith; place = refl }
   start-refused breaks none keeps = record { number = keeps; place = refl }
@@ -55,11 +62,12 @@ module _ (l : Layout) (s : List ℕ) where
 
   -- Only the first answers hand out a unit, as many as are listed.
   zero-below : (us : List Unit) → listing l s .units ≡ us → (k : ℕ) → reading l s k .number ≡ 0 → k < length us
-  unfolding outcome
+  unfolding outcome rankedUnits
   zero-below [] e k z = absurd (all-refused e k .number z)
   zero-below (u ∷ us) e k z =
       let r = reads l s (λ none. clash cc) k in
-      due-zero (afterwards (checkOf l s)) (afterwards-none (checkOf l s)) (u ∷ us) k (rw e at (sym (ap (λ t. t .number) r) ∙ z))
+      let below = due-zero (afterwards (checkOf l s)) (afterwards-none (checkOf l s)) (rankedUnits l s) k (sym (ap (λ t. t .number) r) ∙ z) in
+      omega (arith, length-ranked [] (listing l s .units), ap length e)
 
   -- If only answers before the m-th hand out a unit, at most m do.
   handed : (m : ℕ) → ((k : ℕ) → reading l s k .number ≡ 0 → k < m) → (k : ℕ) → (handedOut l s k ≤ k) × (handedOut l s k ≤ m)

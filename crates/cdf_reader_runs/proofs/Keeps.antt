@@ -19,30 +19,33 @@ use Rattle.cdf_unit_list.specs.declared.Open.{Open}
 use Rattle.cdf_unit_list.proofs.Entering.{unitFrom as unitAt}
 use Rattle.cdf_unit_list.proofs.Stepping.{fresh}
 use Rattle.cdf_reader_spec.specs.Place.{ReaderPlace, nested, fits}
-use Rattle.cdf_reader_spec.specs.Calls.{placeAt}
+use Rattle.cdf_reader_spec.specs.Calls.{emptyPlace, placeAt}
 use Rattle.cdf_reader_spec.specs.Tests.{chain}
-use Rattle.cdf_reader_runs.proofs.Around.{Around, Held, OfClosing, Enters, lies, position-in, chain-on, with-state}
+use Rattle.cdf_reader_runs.proofs.Ranking.{Ranked, empty-ranked, fitting-ranked}
+use Rattle.cdf_reader_runs.proofs.Around.{Around, OfClosing, Enters, lies, position-in, chain-on, with-state}
 use Rattle.cdf_reader_runs.proofs.Around.{close-held, fitting-held, enters-fit}
 
 module _ (l : Layout) (s : List ℕ) where
-  -- Of a step: a refusal's number is not 0, and after a unit that is found the place fits.
-  abbrev pub Keeps : Step → Type 0
-  Keeps done = record {}
-  Keeps (refused n at) = n ≡ 0 → ⊥
-  Keeps (found u os pos) = fits l (length s) (placeAt u os pos) ≡ true
+  -- Of a step from a place: a refusal's number is not 0, and after a unit that is found the place fits.
+  abbrev pub Keeps : ReaderPlace → Step → Type 0
+  Keeps p done = record {}
+  Keeps p (refused n at) = n ≡ 0 → ⊥
+  Keeps p (found u os pos) = fits l (length s) (placeAt p u os pos) ≡ true
 
   -- It is so of a unit judged among bytes t, if what the judge passes may be entered.
-  entered-keeps : (pos : ℕ) (around : ℕ → List Open) (root : Bool) (state : ℕ) (t : List ℕ) →
+  entered-keeps : (p : ReaderPlace) (pos : ℕ) (around : ℕ → List Open) (root : Bool) (state : ℕ) (t : List ℕ) →
+      ((next : ℕ) → Ranked l p pos (around next)) →
       ((id action own len next : ℕ) → Placed l root state t id action own len next →
       Enters l (length s) (unitAt pos id action own len) (around next)) →
-      Keeps (entered pos around (judgeOf l root state t))
+      Keeps p (entered pos around (judgeOf l root state t))
   unfolding entered
-  entered-keeps pos around root state t enters = go (judgeOf l root state t) refl
+  entered-keeps p pos around root state t ranks enters = go (judgeOf l root state t) refl
     where
-      go : (j : Judged) → judgeOf l root state t ≡ j → Keeps (entered pos around j)
+      go : (j : Judged) → judgeOf l root state t ≡ j → Keeps p (entered pos around j)
       go (Fault n k) e = λ z. omega (arith, told l root t state e .low)
       go (Found id action own len next) e =
-          enters-fit l (length s) (unitAt pos id action own len) (around next) (enters id action own len next (placed l root state t e))
+          enters-fit l (length s) p (unitAt pos id action own len) (around next) (enters id action own len next (placed l root state t e))
+          (ranks next)
 
   -- A unit that the judge passes in what the innermost unit has left may be entered,
   nested-enters : (pos : ℕ) (o : Open) (os : List Open) → Around l (length s) pos (o ∷ os) → (id action own len next : ℕ) →
@@ -89,19 +92,21 @@ module _ (l : Layout) (s : List ℕ) where
       }
 
   -- So a start keeps this, and a next that is given a place that fits.
-  pub first-keeps : Keeps (entered 0 (λ state. []) (judgeOf l true 0 s))
-  first-keeps = entered-keeps 0 (λ state. []) true 0 s root-enters
+  pub first-keeps : Keeps emptyPlace (entered 0 (λ state. []) (judgeOf l true 0 s))
+  first-keeps = entered-keeps emptyPlace 0 (λ state. []) true 0 s (λ next. empty-ranked l) root-enters
 
   -- What closing leaves is around the position, so that a unit there may be entered.
-  step-keeps : (os : List Open) (pos : ℕ) → Held l (length s) pos os → Keeps (step l s os pos)
-  unfolding step stepIn
-  step-keeps os pos h = go (close os pos) (close-held l (length s) pos os h)
+  pub next-keeps : (p : ReaderPlace) → fits l (length s) p ≡ true → Keeps p (step l s (p .units) (p .position))
+  unfolding step stepIn withState
+  next-keeps p e = go (close (p .units) (p .position)) refl (close-held l (length s) (p .position) (p .units) (fitting-held l (length s) p e))
     where
-      go : (c : Closing) → OfClosing l (length s) pos c → Keeps (stepIn l s pos c)
-      go (incomplete at) c = λ z. omega arith
-      go (left []) c = record {}
-      go (left (o ∷ os)) a =
-          entered-keeps pos (λ next. withState o next ∷ os) false (o .state) (take (o .end - pos) (drop pos s)) (nested-enters pos o os a)
+      pos : ℕ
+      pos = p .position
 
-  pub next-keeps : (p : ReaderPlace) → fits l (length s) p ≡ true → Keeps (step l s (p .units) (p .position))
-  next-keeps p e = step-keeps (p .units) (p .position) (fitting-held l (length s) p e)
+      go : (c : Closing) → close (p .units) pos ≡ c → OfClosing l (length s) pos c → Keeps p (stepIn l s pos c)
+      go (incomplete at) q c = λ z. omega arith
+      go (left []) q c = record {}
+      go (left (o ∷ os)) q a =
+          let r = fitting-ranked l (length s) p e (o ∷ os) q in
+          entered-keeps p pos (λ next. withState o next ∷ os) false (o .state) (take (o .end - pos) (drop pos s))
+          (λ next. record { each = r .each; low = r .low; next = r .next }) (nested-enters pos o os a)

@@ -1,10 +1,11 @@
+pub mod Ranking
 pub mod Around
 pub mod Keeps
 pub mod Replies
 pub mod Steps
+pub mod Looping
 pub mod Readings
 pub mod Handed
 pub mod Further
-pub mod Looping
 pub mod Folding
 pub mod Proved

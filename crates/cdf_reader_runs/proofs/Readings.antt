@@ -1,11 +1,12 @@
 -- The unit list is what comes of a start and nexts.
 use Prim.Native.Nat.{ℕ, zero, suc}
 use mathlib.Core.Path.{_≡_, refl, ap, _∙_}
-use mathlib.Core.List.{List, []}
+use mathlib.Core.List.{List, [], _∷_}
 use borrow.Author.Tests.{ne-eqb}
 use lib.ListN.{length}
 use Rattle.cdf_unit_prefix.specs.Layout.{Layout}
 use Rattle.cdf_unit_list.specs.Units.{End, listing}
+use Rattle.cdf_unit_list.specs.Ranks.{ranked, rankedUnits}
 use Rattle.cdf_unit_list.specs.Stack.{Step, done, refused}
 use Rattle.cdf_unit_list.specs.Check.{answerOf, answer, checkOf}
 use Rattle.cdf_unit_list.specs.declared.Unit.{Unit}
@@ -16,6 +17,7 @@ use Rattle.cdf_reader_runs.proofs.Keeps.{Keeps, first-keeps, next-keeps
 use Rattle.cdf_reader_spec.proofs.Replying.{first-is}
 use Rattle.cdf_reader_runs.proofs.Replies.{next-is}
 use Rattle.cdf_reader_runs.proofs.Steps.{Run, ends, breaks, hands, listed}
+use Rattle.cdf_reader_runs.proofs.Looping.{Stands, stands-next}
 
 module _ (l : Layout) (s : List ℕ) where
   -- The answers by the calls.
@@ -49,25 +51,28 @@ module _ (l : Layout) (s : List ℕ) where
   stays r same (suc k) = rw same (stays r same k)
 
   -- A step's own answer: its first unit, or what the end comes to.
-  begins-from : {x : Step} {us : List Unit} {e : End} → Run l s x us e → (p : ReaderPlace) → Keeps l s x → (count : ℕ) →
-      outcome (stepped p x) ≡ due (afterwards (answerOf count e)) us 0
-  unfolding stepped outcome due afterwards answerOf
-  begins-from ends p keeps count = refl
-  begins-from (breaks {n} {at}) p keeps count = rw (ne-eqb n 0 keeps)
-  begins-from (hands run) p keeps count = refl
+  begins-from : {x : Step} {us : List Unit} {e : End} → Run l s x us e → (before : List Unit) (p : ReaderPlace) → Keeps l s p x →
+      Stands l s before p x → (count : ℕ) → outcome (stepped p x) ≡ due (afterwards (answerOf count e)) (ranked before us) 0
+  unfolding stepped outcome due afterwards answerOf ranked
+  begins-from ends before p keeps h count = refl
+  begins-from (breaks {n} {at}) before p keeps h count = rw (ne-eqb n 0 keeps)
+  begins-from (hands {u = u} {os = os} {pos = pos} run) before p keeps h count = rw (stands-next l s before p u os pos h keeps .0 .handed)
 
   -- From a step on: its units, and then what the end comes to, for ever. With none left, a next from the place is this step.
-  reads-from : {x : Step} {us : List Unit} {e : End} → Run l s x us e → (p : ReaderPlace) → Keeps l s x →
-      (us ≡ [] → nextOf l s p ≡ stepped p x) → (count k : ℕ) →
-      outcome (onward (stepped p x) k) ≡ due (afterwards (answerOf count e)) us k
-  unfolding stepped outcome due afterwards answerOf onward
-  reads-from ends p keeps again count k = rw (stays (stepped p done) (again refl) k)
-  reads-from (breaks {n} {at}) p keeps again count k = rw (stays (stepped p (refused n at)) (again refl) k, ne-eqb n 0 keeps)
-  reads-from (hands run) p keeps again count zero = refl
-  reads-from (hands {u = u} {os = os} {pos = pos} run) p keeps again count (suc k) =
-      let q = placeAt u os pos in
+  reads-from : {x : Step} {us : List Unit} {e : End} → Run l s x us e → (before : List Unit) (p : ReaderPlace) → Keeps l s p x →
+      Stands l s before p x → (us ≡ [] → nextOf l s p ≡ stepped p x) → (count k : ℕ) →
+      outcome (onward (stepped p x) k) ≡ due (afterwards (answerOf count e)) (ranked before us) k
+  unfolding stepped outcome due afterwards answerOf onward ranked
+  reads-from ends before p keeps h again count k = rw (stays (stepped p done) (again refl) k)
+  reads-from (breaks {n} {at}) before p keeps h again count k =
+      rw (stays (stepped p (refused n at)) (again refl) k, ne-eqb n 0 keeps)
+  reads-from (hands {u = u} {os = os} {pos = pos} run) before p keeps h again count zero =
+      rw (stands-next l s before p u os pos h keeps .0 .handed)
+  reads-from (hands {u = u} {os = os} {pos = pos} run) before p keeps h again count (suc k) =
+      let q = placeAt p u os pos in
       let next = next-is l s q keeps in
-      ap (λ r. outcome (onward r k)) next ∙ reads-from run q (next-keeps l s q keeps) (λ z. next) count k
+      ap (λ r. outcome (onward r k)) next
+      ∙ reads-from run (u ∷ before) q (next-keeps l s q keeps) (stands-next l s before p u os pos h keeps) (λ z. next) count k
 
   -- The check's answer is that of the unit list.
   pub check-is : checkOf l s ≡ answerOf (length (listing l s .units)) (listing l s .end)
@@ -76,10 +81,12 @@ module _ (l : Layout) (s : List ℕ) where
 
   -- The start's place has no next, but its step found a unit.
   pub reads : (listing l s .units ≡ [] → ⊥) → (k : ℕ) →
-      outcome (reading l s k) ≡ due (afterwards (checkOf l s)) (listing l s .units) k
+      outcome (reading l s k) ≡ due (afterwards (checkOf l s)) (rankedUnits l s) k
+  unfolding rankedUnits
   reads some k =
       rw (reading-onward k, first-is l s, check-is)
-      (reads-from (listed l s) emptyPlace (first-keeps l s) (λ z. absurd (some z)) (length (listing l s .units)) k)
+      (reads-from (listed l s) [] emptyPlace (first-keeps l s) (refl, refl) (λ z. absurd (some z)) (length (listing l s .units)) k)
 
-  pub begins : outcome (firstOf l s) ≡ due (afterwards (checkOf l s)) (listing l s .units) 0
-  begins = rw (first-is l s, check-is) (begins-from (listed l s) emptyPlace (first-keeps l s) (length (listing l s .units)))
+  pub begins : outcome (firstOf l s) ≡ due (afterwards (checkOf l s)) (rankedUnits l s) 0
+  unfolding rankedUnits
+  begins = rw (first-is l s, check-is) (begins-from (listed l s) [] emptyPlace (first-keeps l s) (refl, refl) (length (listing l s .units)))

@@ -32,7 +32,7 @@ module _ (l : Layout) (s : List ℕ) where
   Fits r = r .number ≡ 0 → fits l (length s) (r .place) ≡ true
 
   -- A step that keeps this gives such an answer, so that every call does.
-  stepped-fits : (p : ReaderPlace) (x : Step) → Keeps l s x → Fits (stepped p x)
+  stepped-fits : (p : ReaderPlace) (x : Step) → Keeps l s p x → Fits (stepped p x)
   unfolding stepped
   stepped-fits p done k z = absurd (omega arith)
   stepped-fits p (refused n at) k z = absurd (k z)

@@ -4,9 +4,9 @@ use mathlib.Core.Path.{_≡_, refl, ap}
 use mathlib.Core.List.{List, _∷_}
 use lib.ListN.{length}
 use Rattle.cdf_unit_list.specs.declared.Open.{Open}
-use Rattle.cdf_reader_spec.specs.Slots.{aroundOf, heldOf, around, openUnits}
+use Rattle.cdf_reader_spec.specs.Slots.{slotOf, aroundOf, heldOf, around, openUnits}
 
-length-around : {A : Type 0} (none o1 o2 o3 : A) (k : ℕ) → length (aroundOf none o1 o2 o3 k) ≡ k
+pub length-around : {A : Type 0} (none o1 o2 o3 : A) (k : ℕ) → length (aroundOf none o1 o2 o3 k) ≡ k
 unfolding aroundOf
 length-around none o1 o2 o3 zero = refl
 length-around none o1 o2 o3 (suc k) = ap suc (length-around none o1 o2 o3 k)
@@ -15,6 +15,12 @@ pub length-held : {A : Type 0} (none : A) (count : ℕ) (top o1 o2 o3 : A) → l
 unfolding heldOf
 length-held none zero top o1 o2 o3 = refl
 length-held none (suc k) top o1 o2 o3 = ap suc (length-around none o1 o2 o3 k)
+
+-- Those around the innermost are so many with the next one as the innermost.
+pub inner-held : {A : Type 0} (none o1 o2 o3 : A) (k : ℕ) → aroundOf none o1 o2 o3 k ≡ heldOf none k (slotOf none o1 o2 o3 k) o1 o2 o3
+unfolding heldOf
+inner-held none o1 o2 o3 zero = refl
+inner-held none o1 o2 o3 (suc k) = refl
 
 pub length-open : (count : ℕ) (top o1 o2 o3 : Open) → length (openUnits count top o1 o2 o3) ≡ count
 unfolding openUnits

@@ -2,6 +2,10 @@ pub mod Nesting
 pub mod Fitting
 pub mod Opened
 pub mod Suffix
+pub mod Ranking
 pub mod Replying
+pub mod Closed
+pub mod Cases
+pub mod Telling
 pub mod Counted
 pub mod Proved

@@ -7,15 +7,22 @@ use lib.Dec.{eqb}
 use lib.ListN.{length}
 use Rattle.cdf_unit_prefix.specs.Layout.{Layout}
 use Rattle.cdf_unit_judge.specs.Judge.{judgeOf}
-use Rattle.cdf_unit_list.specs.Stack.{Step, entered, step}
+use Rattle.cdf_unit_list.specs.Stack.{Step, found, entered, step}
+use Rattle.cdf_unit_list.specs.declared.Unit.{Unit}
+use Rattle.cdf_unit_list.specs.declared.Open.{Open}
 use Rattle.cdf_reader_spec.specs.Place.{ReaderPlace, isEmpty, fits}
-use Rattle.cdf_reader_spec.specs.Calls.{emptyPlace, refuse, moveTo, give, stepped, firstOf, nextOf, previousOf}
+use Rattle.cdf_reader_spec.specs.Calls.{emptyPlace, refuse, moveTo, give, placeAt, stepped, firstOf, nextOf, previousOf}
 use Rattle.cdf_reader_spec.specs.Calls.{untouched, passed, passing, skipOf, isGroup, takeOf, partOf, callOf}
 use Rattle.cdf_reader_spec.specs.declared.Call.the-variants.{Start, Next, Skip, GetStream, Previous}
 
 -- The step that a start takes.
 abbrev pub start : Layout → List ℕ → Step
 start l s = entered 0 (λ state. []) (judgeOf l true 0 s)
+
+-- A unit that a step finds is handed out.
+pub found-is : (p : ReaderPlace) (u : Unit) (os : List Open) (pos : ℕ) → stepped p (found u os pos) ≡ give (placeAt p u os pos)
+unfolding stepped
+found-is p u os pos = refl
 
 module _ (l : Layout) (s : List ℕ) where
   -- A start is its step, from the empty place.
@@ -34,7 +41,7 @@ module _ (l : Layout) (s : List ℕ) where
   pub previous-tests : (p : ReaderPlace) →
       previousOf l s p
       ≡ cond (isEmpty p) (refuse 11 0 p)
-      (cond (not (fits l (length s) p)) (refuse 2 0 p) (give (p .last) p))
+      (cond (not (fits l (length s) p)) (refuse 2 0 p) (give p))
   unfolding previousOf
   previous-tests p = refl
 

@@ -11,46 +11,63 @@ use Rattle.cdf_unit_judge.specs.Judge.{judgeOf}
 use Rattle.cdf_unit_list.specs.Stack.{Step, done, refused, found, entered, withState, step}
 use Rattle.cdf_unit_list.specs.declared.Unit.{Unit}
 use Rattle.cdf_unit_list.specs.declared.Open.{Open}
+use Rattle.cdf_unit_list.specs.declared.Ranked.{Ranked}
 use Rattle.cdf_reader_spec.specs.Place.{ReaderPlace, isEmpty, fits}
+use Rattle.cdf_reader_spec.specs.Closing.{unclosedRanks}
+use Rattle.cdf_reader_spec.specs.Ranking.{nextRank, handedAt}
 use Rattle.cdf_reader_spec.specs.declared.Call.{Call}
 use Rattle.cdf_reader_spec.specs.declared.Call.the-variants.{Start, Next, Skip, GetStream, Previous}
 
--- A call's number and offset, the unit handed out, and the new place.
+-- A call's number and offset, the unit handed out with its depth and rank, and the new place.
 pub record Reply : Type 0 where
   pub number : ℕ
   pub offset : ℕ
-  pub unit : Unit
+  pub handed : Ranked
   pub place : ReaderPlace
 
--- Beside a number other than 0: the unit of zeros.
+-- Where no unit is handed out: zeros.
 abbrev pub noUnit : Unit
 noUnit = record { id = 0; action = 0; start = 0; own = 0; end = 0 }
 
+abbrev pub noRanked : Ranked
+noRanked = record { unit = noUnit; depth = 0; rank = 0 }
+
 -- The empty place that a refused start and ABNORMAL_END return.
 abbrev pub emptyPlace : ReaderPlace
-emptyPlace = record { position = 0; units = []; last = noUnit; fresh = false }
+emptyPlace = record { position = 0; units = []; last = noUnit; fresh = false; ranks = []; lastRank = 0 }
 
 -- A rule that is broken: its number and offset, no unit, and the place that goes with them.
 abbrev pub refuse : ℕ → ℕ → ReaderPlace → Reply
-refuse n at p = record { number = n; offset = at; unit = noUnit; place = p }
+refuse n at p = record { number = n; offset = at; handed = noRanked; place = p }
 
--- Success without a unit, and with one: 0 and the place that the call leads to.
+-- Success without a unit, and with one: 0 and the place that the call leads to, whose last unit is handed out.
 abbrev pub moveTo : ReaderPlace → Reply
-moveTo p = record { number = 0; offset = 0; unit = noUnit; place = p }
+moveTo p = record { number = 0; offset = 0; handed = noRanked; place = p }
 
-abbrev pub give : Unit → ReaderPlace → Reply
-give u p = record { number = 0; offset = 0; unit = u; place = p }
+abbrev pub give : ReaderPlace → Reply
+give p = record { number = 0; offset = 0; handed = handedAt p; place = p }
 
--- The place in which a start or NEXT leaves a reader: the unit handed out is the last one and may be skipped if it admits others.
-abbrev pub placeAt : Unit → List Open → ℕ → ReaderPlace
-placeAt u os pos = record { position = pos; units = os; last = u; fresh = opens (u .id) }
+-- The place to which a start or NEXT leads from p: the unit is the last one, and may be skipped if it admits others, which is when it is
+-- opened too.
+abbrev pub placeAt : ReaderPlace → Unit → List Open → ℕ → ReaderPlace
+placeAt p u os pos =
+    let left = unclosedRanks (p .units) (p .ranks) (p .position) in
+    record {
+      position = pos;
+      units = os;
+      last = u;
+      fresh = opens (u .id);
+      ranks = cond (opens (u .id)) (nextRank p ∷ left) left;
+      lastRank = nextRank p;
+    }
 
 -- What a step from a place comes to. At the end: 1. A rule that is broken: its number and offset. A unit: it is handed out. `p`
 -- is the place that goes with any number but 0.
 unfoldable pub stepped : ReaderPlace → Step → Reply
+unfolding unclosedRanks nextRank handedAt
 stepped p done = refuse 1 0 p
 stepped p (refused n at) = refuse n at p
-stepped p (found u os pos) = give u (placeAt u os pos)
+stepped p (found u os pos) = give (placeAt p u os pos)
 
 -- FIRST: the root's rules, 3 to 9 in order.
 unfoldable pub firstOf : Layout → List ℕ → Reply
@@ -82,7 +99,14 @@ skippedTop (o ∷ os) = withState o (skipped (o .state)) ∷ os
 -- The place past the last unit, which stays open and is skipped.
 unfoldable pub passed : ReaderPlace → ReaderPlace
 unfolding skippedTop
-passed p = record { position = p .last .end; units = skippedTop (p .units); last = p .last; fresh = false }
+passed p = record {
+  position = p .last .end;
+  units = skippedTop (p .units);
+  last = p .last;
+  fresh = false;
+  ranks = p .ranks;
+  lastRank = p .lastRank;
+}
 
 -- What passes the last unit, where that may be done: 11, then 2.
 unfoldable pub passing : Layout → List ℕ → ReaderPlace → Bool → Reply
@@ -119,10 +143,10 @@ partOf l s p =
 
 -- PREVIOUS: the last unit again; the place stays.
 unfoldable pub previousOf : Layout → List ℕ → ReaderPlace → Reply
-unfolding isEmpty fits
+unfolding isEmpty fits handedAt
 previousOf l s p =
     cond (isEmpty p) (refuse 11 0 p)
-    (cond (not (fits l (length s) p)) (refuse 2 0 p) (give (p .last) p))
+    (cond (not (fits l (length s) p)) (refuse 2 0 p) (give p))
 
 -- A start is the one call that needs no place.
 abbrev pub isStart : Call → Bool

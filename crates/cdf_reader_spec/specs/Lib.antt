@@ -1,8 +1,11 @@
 pub mod Place
-pub mod Calls
-pub mod Slots
 pub mod Closing
+pub mod Ranking
+pub mod Calls
+pub mod Depths
+pub mod Slots
 pub mod Tests
 pub mod NearMisses
 pub mod Refusals
+pub mod Standing
 pub mod Claims

@@ -1,6 +1,6 @@
--- The reader's place as document 01 has it ("Check and reader"), and when it fits n bytes, over the layout: a clause of 01 for
--- each line of `clauses`.
-use Prim.Native.Nat.{ℕ, _+_}
+-- The reader's place as document 01 has it ("Check and reader"), and when it fits n bytes, over the layout: a clause for each
+-- line of `clauses`, eight of 01 and the ninth of 02, g.
+use Prim.Native.Nat.{ℕ, _+_, _*_}
 use mathlib.Core.Bool.{Bool, true, false, not, _&&_, _||_}
 use mathlib.Core.List.{List, [], _∷_}
 use lib.ListN.{length}
@@ -10,12 +10,15 @@ use Rattle.cdf_unit_prefix.specs.Layout.{Layout, prefixOf}
 use Rattle.cdf_unit_list.specs.declared.Unit.{Unit}
 use Rattle.cdf_unit_list.specs.declared.Open.{Open}
 
--- The position, the open units (`units`, the innermost first), the last unit handed out, and whether that one may still be skipped.
+-- The position, the open units (`units`, the innermost first), the last unit handed out, and whether that one may still be skipped. Beside
+-- them the ranks of the open units, in the same order, and of the last one (02, g).
 pub record ReaderPlace : Type 0 where
   pub position : ℕ
   pub units : List Open
   pub last : Unit
   pub fresh : Bool
+  pub ranks : List ℕ
+  pub lastRank : ℕ
 
 -- A place with no open unit is empty, whatever else it holds.
 unfoldable pub isEmpty : ReaderPlace → Bool
@@ -65,6 +68,8 @@ clauses l n p =
     ∷ (leb (p .last .start + prefixOf l) (p .last .own) && (leb (p .last .own) (p .last .end) && leb (p .last .end) n))
     -- which may be passed as a whole only where it was just handed out
     ∷ (not (p .fresh) || atLast (p .position) (p .units) (p .last))
+    -- each open unit has its rank, and neither one of these nor the last unit's, times the prefix, is above the position
+    ∷ (eqb (length (p .ranks)) (length (p .units)) && every (λ r. leb (r * prefixOf l) (p .position)) (p .lastRank ∷ p .ranks))
     ∷ []
 
 unfoldable pub all : List Bool → Bool

@@ -7,6 +7,7 @@ use lib.Dec.{eqb}
 use Rattle.cdf_unit_list.specs.declared.Unit.{Unit}
 use Rattle.cdf_unit_list.specs.declared.Open.{Open}
 use Rattle.cdf_reader_spec.specs.Place.{ReaderPlace}
+use Rattle.cdf_reader_spec.specs.declared.Ranks.{Ranks}
 
 abbrev pub noOpen : Open
 noOpen = record { state = 0; start = 0; end = 0 }
@@ -27,7 +28,7 @@ unfolding aroundOf
 heldOf none zero top o1 o2 o3 = []
 heldOf none (suc k) top o1 o2 o3 = top ∷ aroundOf none o1 o2 o3 k
 
--- The same of open units. Who unfolds the last sees the others too.
+-- The same of open units. Unfolding `openUnits` unfolds the other two.
 abbrev pub slot : Open → Open → Open → ℕ → Open
 slot o1 o2 o3 k = slotOf noOpen o1 o2 o3 k
 
@@ -39,6 +40,21 @@ unfoldable pub openUnits : ℕ → Open → Open → Open → Open → List Open
 unfolding around heldOf
 openUnits count top o1 o2 o3 = heldOf noOpen count top o1 o2 o3
 
-abbrev pub placeOf : ℕ → ℕ → Open → Open → Open → Open → Unit → Bool → ReaderPlace
-placeOf position count top o1 o2 o3 last fresh =
-    record { position = position; units = openUnits count top o1 o2 o3; last = last; fresh = fresh }
+-- The ranks of no units: zeros.
+abbrev pub noRanks : Ranks
+noRanks = record { top = 0; r1 = 0; r2 = 0; r3 = 0; last = 0 }
+
+-- The ranks of so many open units.
+unfoldable pub openRanks : ℕ → Ranks → List ℕ
+unfolding heldOf
+openRanks count k = heldOf 0 count (k .top) (k .r1) (k .r2) (k .r3)
+
+abbrev pub placeOf : ℕ → ℕ → Open → Open → Open → Open → Unit → Bool → Ranks → ReaderPlace
+placeOf position count top o1 o2 o3 last fresh k = record {
+  position = position;
+  units = openUnits count top o1 o2 o3;
+  last = last;
+  fresh = fresh;
+  ranks = openRanks count k;
+  lastRank = k .last;
+}

@@ -1,24 +1,28 @@
 -- What every call begins with: 11 where it has no use, then 2 where the place does not fit and is needed.
-use Prim.Native.Nat.{ℕ}
+use Prim.Native.Nat.{ℕ, _≤_}
 use mathlib.Core.Path.{_≡_, refl, sym, ap, _∙_}
 use mathlib.Core.Bool.{Bool, true, false, not, cond, _||_, true≢false}
 use mathlib.Core.List.{List}
+use native.Mathlib.Omega.{arith}
 use borrow.Author.Tests.{eq-eqb, ne-eqb}
 use lib.Dec.{eqb}
 use lib.ListN.{length}
 use Rattle.cdf_unit_prefix.specs.Layout.{Layout}
 use Rattle.cdf_unit_list.specs.Stack.{step}
 use Rattle.cdf_reader_spec.specs.Place.{ReaderPlace, isEmpty, fits}
+use Rattle.cdf_reader_spec.specs.Ranking.{depthAt}
 use Rattle.cdf_reader_spec.specs.Calls.{Reply, refuse, moveTo, give, stepped, untouched, passed, firstOf, nextOf, callOf, isStart}
 use Rattle.cdf_reader_spec.specs.declared.Call.{Call}
 use Rattle.cdf_reader_spec.specs.declared.Call.the-variants.{Start, Next, Skip, GetStream, Previous}
 use Rattle.cdf_reader_spec.proofs.Counted.{length-open}
+use Rattle.cdf_reader_spec.proofs.Fitting.{fitting}
 use Rattle.cdf_reader_spec.proofs.Replying.{next-tests, previous-tests, passing-tests, skip-is, take-is}
 use Rattle.cdf_reader_spec.proofs.Replying.{start-named, next-named, skip-named, take-named, previous-named}
 use Rattle.cdf_reader_use.specs.Uses.{mayPass, hasUse}
 use Rattle.cdf_reader_cursor.specs.Outcomes.{cursorPlace, outcomeReply, noCursor, refusal}
 use Rattle.cdf_reader_cursor.specs.declared.Cursor.{Cursor}
 use Rattle.cdf_reader_cursor.specs.declared.Outcome.{Outcome}
+use Rattle.cdf_reader_cursor.proofs.Again.{given-is}
 use Rattle.cdf_reader_step.specs.Kept.{cursorKept}
 
 -- A start always has a use.
@@ -53,6 +57,13 @@ module _ (p : Cursor) where
   unfolding isEmpty
   empty-is = rw (length-open (p .count) (p .top) (p .o1) (p .o2) (p .o3))
 
+  -- One that fits has few units.
+  pub counts : (l : Layout) (n : ℕ) → fits l n (cursorPlace p) ≡ true → (1 ≤ p .count) × (p .count ≤ 5)
+  counts l n e =
+      let f = fitting l n (cursorPlace p) e in
+      let same = length-open (p .count) (p .top) (p .o1) (p .o2) (p .o3) in
+      (omega (arith, f .some, same), omega (arith, f .five, same))
+
   untouched-is : untouched (cursorPlace p) ≡ mayPass (p .count) (p .fresh) (p .last .id)
   unfolding untouched
   untouched-is = rw empty-is
@@ -71,7 +82,7 @@ module _ (p : Cursor) where
     does Next = stepped v (step l s (v .units) (v .position))
     does Skip = moveTo (passed v)
     does GetStream = moveTo (passed v)
-    does Previous = give (v .last) v
+    does Previous = give v
 
     some-open : (x : Reply) → cond (isEmpty v) (refuse 11 0 v) x ≡ cond (not (not (eqb (p .count) 0))) (refuse 11 0 v) x
     some-open x = rw empty-is (go (eqb (p .count) 0))
@@ -113,9 +124,9 @@ module _ (p : Cursor) where
           neither true e = e
           neither false e = refl
 
-      -- NEXT needs a place that fits.
-      pub fit-next : ready c ≡ true → c ≡ Next → fits l (length s) v ≡ true
-      fit-next f e = rw e at f
+      -- What is no start needs a place that fits.
+      pub fit-needed : ready c ≡ true → isStart c ≡ false → fits l (length s) v ≡ true
+      fit-needed f e = rw e at f
 
       -- What the call does is its answer.
       module _ (u : Use c ≡ true) (f : ready c ≡ true) where
@@ -142,5 +153,6 @@ module _ (p : Cursor) where
         pub takes : c ≡ GetStream → (r : Outcome) → outcomeReply r ≡ moveTo (passed v) → Answers c r
         takes e = passes (rw e) (rw e)
 
-        pub again : c ≡ Previous → Answers c (record { number = 0; offset = 0; unit = p .last; cursor = p })
-        again e = (sym (done ∙ rw e), (λ some. absurd (some refl), λ z. refl))
+        pub again : c ≡ Previous → (depth : ℕ) → depth ≡ depthAt v →
+            Answers c (record { number = 0; offset = 0; handed = record { unit = p .last; depth = depth; rank = p .ranks .last }; cursor = p })
+        again e depth deep = (given-is p _ refl (sym deep) refl ∙ sym (done ∙ rw e), (λ some. absurd (some refl), λ z. refl))

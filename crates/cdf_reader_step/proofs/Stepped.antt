@@ -1,5 +1,5 @@
 -- What a step from a place that fits comes to, once the units that end at the position are closed.
-use Prim.Native.Nat.{ℕ, zero, suc, _+_, _-_, _≤_}
+use Prim.Native.Nat.{ℕ, zero, suc, _+_, _-_, _≤_, _<_}
 use mathlib.Core.Path.{_≡_, refl, sym, ap, _∙_}
 use mathlib.Core.Bool.{true, false}
 use mathlib.Core.List.{List, _∷_, _++_}
@@ -16,21 +16,26 @@ use Rattle.cdf_unit_judge.proofs.Faults.{offset-lies}
 use Rattle.cdf_unit_list.specs.Stack.{close, Step, done, refused, found, opened, entered, withState, stepIn, step}
 use Rattle.cdf_unit_list.specs.Units.{after}
 use Rattle.cdf_unit_list.specs.declared.Open.{Open}
+use Rattle.cdf_unit_list.specs.declared.Ranked.{Ranked}
 use Rattle.cdf_unit_list.proofs.Entering.{unitFrom}
 use Rattle.cdf_unit_list.proofs.Stepping.{faults, enters}
 use Rattle.cdf_reader_spec.specs.Place.{fits}
 use Rattle.cdf_reader_spec.specs.Slots.{openUnits}
 use Rattle.cdf_reader_spec.proofs.Fitting.{Kinds, Fitting, fitting}
 use Rattle.cdf_reader_spec.proofs.Opened.{kinds-bounded}
-use Rattle.cdf_reader_spec.proofs.Suffix.{suffix, ends-most, ends-least}
+use Rattle.cdf_reader_spec.proofs.Suffix.{suffix, ends-most, ends-least, starts-least}
+use Rattle.cdf_reader_spec.proofs.Ranking.{next-most}
 use Rattle.cdf_reader_spec.proofs.Counted.{length-open, split}
 use Rattle.cdf_reader_spec.specs.Closing.{unclosed}
+use Rattle.cdf_reader_spec.specs.Ranking.{nextRank}
 use Rattle.cdf_reader_spec.specs.Calls.{stepped}
+use Rattle.cdf_reader_close.proofs.Levels.{most, left-ranks}
 use Rattle.cdf_reader_close.proofs.Unclosed.{close-unclosed, front, stops}
 use Rattle.cdf_reader_cursor.specs.Outcomes.{cursorPlace, outcomeReply}
 use Rattle.cdf_reader_cursor.specs.Entering.{entering}
 use Rattle.cdf_reader_cursor.specs.declared.Cursor.{Cursor}
 use Rattle.cdf_reader_cursor.proofs.Entered.{steps}
+use Rattle.cdf_reader_step.specs.Deeper.{Deeper}
 
 -- A step inside the innermost of them.
 step-open : (l : Layout) (s : List ℕ) (position count : ℕ) (top o1 o2 o3 : Open) → (count ≡ 0 → ⊥) → (top .end ≡ position → ⊥) →
@@ -130,10 +135,44 @@ module _ (l : Layout) (s : List ℕ) (p : Cursor) (fit : fits l (length s) (curs
       fault-within e =
           omega (arith, offset-lies l false (top .state) Rest e, within, length-take (top .end - p .position) (drop (p .position) s))
 
-      -- A unit that is found is entered.
+      -- So many are left; the innermost of them starts before the position.
+      many : count ≡ length (unclosed (cursorPlace p .units) (p .position))
+      many = sym (length-open count top (p .o1) (p .o2) (p .o3)) ∙ ap length is
+
+      pub few : count ≤ 5
+      few = omega (arith, many, most (p .position) (cursorPlace p .units), facts .five)
+
+      before : (state : ℕ) → withState top state .start ≡ p .position → ⊥
+      unfolding withState
+      before state e =
+          let w = parts in
+          let h = starts-least l (p .position) (w .0) top (w .1) (rw (w .2) at (facts .starts)) (rw (w .2) at (facts .position)) in
+          omega arith
+
+      -- What is known of a unit that is found: it stands one deeper,
+      pub deeper : {id action own len state : ℕ} → judgeOf l false (top .state) Rest ≡ Found id action own len state →
+          p .position + len < 18446744073709551616 → (depth : ℕ) → depth ≡ suc count → Deeper p depth
+      deeper j word depth deep =
+          let z = placed l false (top .state) Rest j in
+          let low = next-most l (length s) (cursorPlace p) facts in
+          record {
+            some = omega (arith, facts .some, length-open (p .count) (p .top) (p .o1) (p .o2) (p .o3));
+            deeper = deep ∙ ap suc many;
+            low = omega (arith, low, z .room, z .inside);
+          }
+
+      -- and it is entered.
       pub enters-found : (top .end ≡ p .position → ⊥) → {id action own len state : ℕ} →
-          judgeOf l false (top .state) Rest ≡ Found id action own len state →
-          outcomeReply (entering p count top (unitFrom (p .position) id action own len) state) ≡ stepped (cursorPlace p) Next
-      enters-found e j =
-          steps (cursorPlace p) p count top _ _ (omega arith) (room Rest j)
+          judgeOf l false (top .state) Rest ≡ Found id action own len state → (depth rank : ℕ) → depth ≡ suc count →
+          rank ≡ nextRank (cursorPlace p) →
+          let h : Ranked = record { unit = unitFrom (p .position) id action own len; depth = depth; rank = rank } in
+          outcomeReply (entering p count top h state) ≡ stepped (cursorPlace p) Next
+      enters-found e {state = state} j depth rank deep next =
+          steps (cursorPlace p) p count top _ state (omega arith) (room Rest j)
+          (record {
+            left = left-ranks (p .position) (p .count) (p .top) (p .o1) (p .o2) (p .o3) (p .ranks) count many;
+            next = sym next;
+            deep = deep;
+            apart = before state;
+          })
           ∙ sym (ap (stepped (cursorPlace p)) (inside-found e j))

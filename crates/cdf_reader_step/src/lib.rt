@@ -2,15 +2,19 @@
 // those who ask that.
 ghost use mathlib.Core.Path.{_≡_};
 ghost use mathlib.Core.Bool.{true, _||_};
+ghost use Prim.Native.Nat.{_≤_};
 ghost use lib.ListN.{length};
 ghost use Rattle.cdf_unit_list.specs.Stack.{step};
 ghost use Rattle.cdf_unit_prefix.specs.Layout.{layoutOf};
 ghost use Rattle.cdf_reader_spec.specs.Place.{fits};
+ghost use Rattle.cdf_reader_spec.specs.Ranking.{nextRank, depthAt};
 ghost use Rattle.cdf_reader_spec.specs.Calls.{stepped, nextOf, callOf, isStart};
 ghost use Rattle.cdf_reader_spec.specs.declared.Call.the-variants.{Previous};
 ghost use Rattle.cdf_reader_cursor.specs.Outcomes.{cursorPlace, outcomeReply};
 ghost use Rattle.cdf_reader_step.specs.Kept.{cursorKept};
+ghost use Rattle.cdf_reader_step.specs.Deeper.{Deeper};
 use cdf_reader_close::close;
+use cdf_reader_close::rank_at;
 use cdf_reader_cursor::Cursor;
 use cdf_reader_cursor::Outcome;
 use cdf_reader_cursor::enter;
@@ -23,6 +27,7 @@ use cdf_reader_use::has_use;
 use cdf_reader_use::is_start;
 use cdf_unit_judge::Judged;
 use cdf_unit_judge::judge;
+use cdf_unit_list::Ranked;
 use cdf_unit_list::Unit;
 use cdf_unit_prefix::Edition;
 
@@ -35,6 +40,7 @@ fn is_fit(c: Cursor, edition: Edition, n: usize) -> bool
     let o2 = c.o2;
     let o3 = c.o3;
     let last = c.last;
+    let ranks = c.ranks;
     fits(
         edition,
         n,
@@ -46,6 +52,7 @@ fn is_fit(c: Cursor, edition: Edition, n: usize) -> bool
         o3,
         last,
         c.fresh,
+        ranks,
     )
 }
 
@@ -57,6 +64,38 @@ fn is_ready(c: Cursor, edition: Edition, n: usize, call: Call) -> bool
         return true;
     }
     is_fit(c, edition, n)
+}
+
+// How the unit at the position ranks, which stands at this depth: after the outermost unit that closes there, else in the last unit, if
+// that is the innermost by its start, and else after it.
+fn next_rank(c: Cursor, depth: usize) -> usize
+    requires { ⌜ Deeper c depth ⌝ }
+    ensures { λ r. ⌜ r ≡ nextRank (cursorPlace c) ⌝ }
+{
+    let ranks = c.ranks;
+    let last = ranks.last;
+    if depth <= c.count {
+        let closed = rank_at(depth, c.count, ranks);
+        let after = closed + 1;
+        return after;
+    }
+    if c.last.start == c.top.start {
+        return 0;
+    }
+    let later = last + 1;
+    later
+}
+
+// How deep the last unit of a place stands: it is the innermost by its start, or stands in that one.
+fn last_depth(c: Cursor) -> usize
+    requires { ⌜ (1 ≤ c .count) × (c .count ≤ 5) ⌝ }
+    ensures { λ r. ⌜ r ≡ depthAt (cursorPlace c) ⌝ }
+{
+    if c.top.start == c.last.start {
+        return c.count;
+    }
+    let deeper = c.count + 1;
+    deeper
 }
 
 // What NEXT does with a place that fits: it closes units, judges the one at the position and enters it.
@@ -100,7 +139,10 @@ fn step(c: Cursor, edition: Edition, s: &[u8]) -> Outcome
                 own: own_end,
                 end,
             };
-            enter(c, left.count, inner, unit, state)
+            let depth = left.count + 1;
+            let rank = next_rank(c, depth);
+            let handed = Ranked { unit, depth, rank };
+            enter(c, left.count, inner, handed, state)
         }
     }
 }
@@ -140,10 +182,16 @@ pub fn call_at(c: Cursor, edition: Edition, call: Call, s: &[u8]) -> Outcome
         Call::GetStream => pass(c),
         Call::Previous => {
             let unit = c.last;
+            let depth = last_depth(c);
+            let handed = Ranked {
+                unit,
+                depth,
+                rank: c.ranks.last,
+            };
             Outcome {
                 number: 0,
                 offset: 0,
-                unit,
+                handed,
                 cursor: c,
             }
         }

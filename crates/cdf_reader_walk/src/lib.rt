@@ -5,15 +5,17 @@ ghost use Rattle.cdf_unit_prefix.specs.Layout.{layoutOf};
 ghost use Rattle.cdf_unit_prefix.specs.declared.Edition.the-variants.{First};
 ghost use Rattle.cdf_reader_walk.specs.Fold.{mixOf, mixEnd, walkOf};
 use cdf_reader::first;
-use cdf_unit_list::Unit;
+use cdf_unit_list::Ranked;
 
 // One more unit.
-fn mix(h: u64, u: Unit) -> u64
-    ensures { λ r. ⌜ r ≡ mixOf h u ⌝ }
+fn mix(h: u64, handed: Ranked) -> u64
+    ensures { λ r. ⌜ r ≡ mixOf h handed ⌝ }
 {
+    let u = handed.unit;
     let turned = (h << 5) | (h >> 59);
     let bounds = (u.start as u64) ^ ((u.own as u64) << 16) ^ ((u.end as u64) << 32);
-    turned ^ bounds ^ ((u.id as u64) << 48) ^ ((u.action as u64) << 56)
+    let standing = ((handed.depth as u64) << 52) ^ ((handed.rank as u64) << 8);
+    turned ^ bounds ^ ((u.id as u64) << 48) ^ ((u.action as u64) << 56) ^ standing
 }
 
 // The number that ends the run, and its offset.
@@ -30,8 +32,8 @@ pub extern "C" fn cdf_walk(s: &[u8]) -> u64
     let mut a = first(s);
     let mut h: u64 = 0;
     while a.number == 0 {
-        let unit = a.unit;
-        h = mix(h, unit);
+        let handed = a.handed;
+        h = mix(h, handed);
         let p = a.place;
         a = p.next(s);
     }

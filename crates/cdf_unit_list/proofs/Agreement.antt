@@ -41,7 +41,7 @@ unit-agrees us pos around (Found id action own len state) enters =
     both-list (e .shallow) (enter us (around state) (unitFrom pos id action own len) e)
 
 module _ (l : Layout) (s : List ℕ) where
-  within-agrees : (us : List Unit) (pos : ℕ) → Before pos us → (ws : List Unit) → openAt pos us ≡ ws → Nested pos (suc pos) ws →
+  pub within-agrees : (us : List Unit) (pos : ℕ) → Before pos us → (ws : List Unit) → openAt pos us ≡ ws → Nested pos (suc pos) ws →
       Bounded (map (openOf us) ws) → Agrees us (within l s us pos ws) (stepIn l s pos (left (map (openOf us) ws)))
   unfolding within stepIn withState admits
   within-agrees us pos before [] e h heights = both-end
@@ -66,11 +66,11 @@ module _ (l : Layout) (s : List ℕ) where
       })
 
   -- Closing takes units off the stack, and no more.
-  abbrev OfClosing : Closing → Type 0
+  abbrev pub OfClosing : Closing → Type 0
   OfClosing (incomplete at) = record {}
   OfClosing (left os) = Bounded os
 
-  close-bounded : (os : List Open) (pos : ℕ) → Bounded os → OfClosing (close os pos)
+  pub close-bounded : (os : List Open) (pos : ℕ) → Bounded os → OfClosing (close os pos)
   unfolding close
   close-bounded [] pos h = record {}
   close-bounded (o ∷ os) pos h = go (eqb (o .end) pos) (complete (o .state)) (close-bounded os pos (h .1))

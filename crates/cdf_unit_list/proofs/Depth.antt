@@ -14,19 +14,26 @@ use Rattle.cdf_unit_judge.specs.declared.Judged.{Judged}
 use Rattle.cdf_unit_list.proofs.Entering.{Follow}
 use Rattle.cdf_unit_list.proofs.Agreement.{Agrees, both-end, both-refuse, both-list, first-agrees, next-agrees}
 
--- Where each of the units starts, at most four are open; the last one first.
-abbrev Shallow : List Unit → Type 0
-Shallow [] = record {}
-Shallow (v ∷ us) = (length (openAt (v .start) us) ≤ 4) × Shallow us
+-- What holds of each unit and those before it; the last one first.
+abbrev pub Each : (List Unit → Unit → Type 0) → List Unit → Type 0
+Each P [] = record {}
+Each P (v ∷ us) = P us v × Each P us
 
-earlier : (vs us : List Unit) → Shallow (reverseAux vs us) → Shallow us
-earlier [] us h = h
-earlier (v ∷ vs) us h = earlier vs (v ∷ us) h .1
+pub earlier : (P : List Unit → Unit → Type 0) (vs us : List Unit) → Each P (reverseAux vs us) → Each P us
+earlier P [] us h = h
+earlier P (v ∷ vs) us h = earlier P vs (v ∷ us) h .1
+
+-- Where it starts, at most four are open.
+abbrev AtMostFour : List Unit → Unit → Type 0
+AtMostFour us v = length (openAt (v .start) us) ≤ 4
+
+abbrev Shallow : List Unit → Type 0
+Shallow us = Each AtMostFour us
 
 depths-few : (vs us : List Unit) → Shallow (reverseAux vs us) → (k : ℕ) → getD (depths us vs) k 0 ≤ 5
 unfolding depths
 depths-few [] us h k = omega arith
-depths-few (v ∷ vs) us h zero = let w = earlier vs (v ∷ us) h in omega arith
+depths-few (v ∷ vs) us h zero = let w = earlier AtMostFour vs (v ∷ us) h in omega arith
 depths-few (v ∷ vs) us h (suc k) = depths-few vs (v ∷ us) h k
 
 module _ (l : Layout) (s : List ℕ) (first : Judged) where

@@ -21,11 +21,11 @@ use Rattle.cdf_unit_list.proofs.Entering.{after-between, unitFrom}
 use Rattle.cdf_unit_list.proofs.Agreement.{follows}
 
 module _ (l : Layout) (s : List ℕ) where
-  -- The next position is a prefix further at least, and not past the end.
+  -- The unit starts at the position. The next position is a prefix further at least, and not past the end.
   abbrev pub Further : ℕ → Step → Type 0
   Further pos done = record {}
   Further pos (refused n at) = record {}
-  Further pos (found u os later) = (pos + prefixOf l ≤ later) × (later ≤ length s)
+  Further pos (found u os later) = (pos + prefixOf l ≤ later) × (later ≤ length s) × (u .start ≡ pos)
 
   pub unit-further : (pos : ℕ) (root : Bool) (state : ℕ) (t : List ℕ) (around : ℕ → List Open) → length t ≤ length s - pos →
       Further pos (entered pos around (judgeOf l root state t))
@@ -37,7 +37,7 @@ module _ (l : Layout) (s : List ℕ) where
       go (Found id action own len next) e =
           let p = placed l root state t e in
           let between = after-between (unitFrom pos id action own len) (omega arith) in
-          omega arith
+          (omega arith, omega arith, refl)
 
   pub step-further : (pos : ℕ) (os : List Open) → Further pos (step l s os pos)
   unfolding step stepIn

@@ -8,5 +8,7 @@ pub mod Fuel
 pub mod Ending
 pub mod Numbered
 pub mod Depth
+pub mod Ranks
+pub mod Low
 pub mod Stepping
 pub mod Proved

@@ -41,20 +41,32 @@ inside-none pos [] b = refl
 inside-none pos (v ∷ us) b = rw (starts-none pos (λ u. ltb (v .start) (u .end)) us (b .1)) (inside-none pos us (b .1))
 
 -- The new unit has had nothing.
+pub new-inside : (v : Unit) (us : List Unit) → Before (v .start) us → inside (v .start) (v ∷ us) ≡ []
+unfolding inside openAt
+new-inside v us b = rw (starts-none (v .start) (λ u. ltb (v .start) (u .end)) us b, inside-none (v .start) us b)
+
 pub new-state : (v : Unit) (us : List Unit) → Before (v .start) us → stateOf (v ∷ us) v ≡ nothing (v .id)
-unfolding stateOf inside openAt stateFrom
-new-state v us b = rw (starts-none (v .start) (λ u. ltb (v .start) (u .end)) us b, inside-none (v .start) us b)
+unfolding stateOf stateFrom
+new-state v us b = rw (new-inside v us b)
 
 module _ (v : Unit) (us : List Unit) (o : Unit) (os : List Unit) (opened : openAt (v .start) us ≡ o ∷ os) where
   -- The innermost open unit has had the new one too,
-  pub inner-state : stateOf (v ∷ us) o ≡ admit (stateOf us o) (v .id)
-  unfolding stateOf inside firstStarts stateFrom
-  inner-state = rw (opened, eq-eqb (o .start) (o .start) refl)
+  pub inner-inside : inside (o .start) (v ∷ us) ≡ v .id ∷ inside (o .start) us
+  unfolding inside firstStarts
+  inner-inside = rw (opened, eq-eqb (o .start) (o .start) refl)
 
-  -- and those around it what they state before.
+  pub inner-state : stateOf (v ∷ us) o ≡ admit (stateOf us o) (v .id)
+  unfolding stateOf stateFrom
+  inner-state = rw inner-inside
+
+  -- and those around it what they had before.
+  pub outer-inside : (w : Unit) → w .start < o .start → inside (w .start) (v ∷ us) ≡ inside (w .start) us
+  unfolding inside firstStarts
+  outer-inside w h = rw (opened, ne-eqb (o .start) (w .start) (λ e. omega arith))
+
   outer-state : (w : Unit) → w .start < o .start → stateOf (v ∷ us) w ≡ stateOf us w
-  unfolding stateOf inside firstStarts
-  outer-state w h = rw (opened, ne-eqb (o .start) (w .start) (λ e. omega arith))
+  unfolding stateOf
+  outer-state w h = rw (outer-inside w h)
 
   pub outer-open : (ws : List Unit) (end : ℕ) → Nested (o .start) end ws → map (openOf (v ∷ us)) ws ≡ map (openOf us) ws
   outer-open [] end h = refl

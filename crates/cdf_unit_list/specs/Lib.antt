@@ -1,5 +1,6 @@
 pub mod Units
 pub mod Check
+pub mod Ranks
 pub mod Stack
 pub mod Steps
 pub mod Samples

@@ -3,7 +3,7 @@ ghost use mathlib.Core.Path.{_≡_};
 ghost use Rattle.cdf_version_c.specs.Version.{version};
 
 // CDF_VERSION of include/.
-const VERSION: u64 = 1;
+const VERSION: u64 = 2;
 
 #[no_mangle]
 pub extern "C" fn cdf_version() -> u64

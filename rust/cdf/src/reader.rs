@@ -8,6 +8,8 @@ use crate::{Action, Id, Refusal, Unit};
 
 /// The units of a stream, each before those nested in it, in the order of their starts.
 ///
+/// Each unit tells how deep it lies and how many siblings stand before it, whatever was skipped or taken before.
+///
 /// Of any bytes it hands out the units before the first broken rule, then the refusal, then nothing more. Of a stream that
 /// [`check`](crate::check) accepts it hands out all units and no refusal.
 ///
@@ -41,7 +43,7 @@ enum State {
 impl<'a> Reader<'a> {
     /// A reader before the first unit. Nothing is read yet, and any bytes will do.
     pub fn new(stream: &'a [u8]) -> Self {
-        Reader { stream, place: [0; 20], state: State::Fresh }
+        Reader { stream, place: [0; 25], state: State::Fresh }
     }
 
     /// Passes all that is inside the unit just handed out, whatever it is: no byte of it is looked at. Refused with 11 where there is
@@ -100,6 +102,8 @@ fn unit<'a>(stream: &'a [u8], answer: &sys::Answer) -> Unit<'a> {
         start: answer[3] as usize,
         own_end: answer[4] as usize,
         end: answer[5] as usize,
+        depth: answer[8] as usize,
+        rank: answer[9] as usize,
     }
 }
 

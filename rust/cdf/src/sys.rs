@@ -2,9 +2,9 @@
 //! This is the one module with unsafe code.
 
 /// The numbers of a reader's place, `CDF_PLACE_NUMBERS`.
-pub type Place = [u64; 20];
+pub type Place = [u64; 25];
 /// The numbers of a reader's answer, `CDF_ANSWER_NUMBERS`.
-pub type Answer = [u64; 8];
+pub type Answer = [u64; 10];
 /// The numbers of an explanation, `CDF_EXPLAIN_NUMBERS`.
 pub type Explained = [u64; 25];
 /// The numbers of a lookup's answer, `CDF_LOOKUP_NUMBERS`.
@@ -135,7 +135,7 @@ pub fn read(call: Call, stream: &[u8], place: &mut Place) -> (u64, Answer) {
         Call::GetStream => archive::cdf_get_stream,
         Call::Previous => archive::cdf_previous,
     };
-    let mut answer = [0; 8];
+    let mut answer = [0; 10];
     // SAFETY: as above.
     let number = unsafe { function(stream.as_ptr(), stream.len(), place, &mut answer) };
     (number, answer)

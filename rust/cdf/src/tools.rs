@@ -8,7 +8,7 @@ use crate::{Id, Refusal};
 /// The version of the archive's numbers, `CDF_VERSION`: a reader's or builder's place does not outlive it.
 ///
 /// ```
-/// assert_eq!(cdf::version(), 1);
+/// assert_eq!(cdf::version(), 2);
 /// ```
 pub fn version() -> u64 {
     sys::version()

@@ -168,6 +168,8 @@ pub struct Unit<'a> {
     pub(crate) start: usize,
     pub(crate) own_end: usize,
     pub(crate) end: usize,
+    pub(crate) depth: usize,
+    pub(crate) rank: usize,
 }
 
 impl<'a> Unit<'a> {
@@ -194,6 +196,25 @@ impl<'a> Unit<'a> {
     /// Where it ends.
     pub fn end(&self) -> usize {
         self.end
+    }
+
+    /// How deep it lies: 1 for the root, and one more inside each unit around it.
+    pub fn depth(&self) -> usize {
+        self.depth
+    }
+
+    /// How many units stand before it directly in the same unit: 0 for the first, and for the root. One that was skipped or taken counts
+    /// once, with all that is in it.
+    ///
+    /// ```
+    /// let stream = b"\xCD\xF1\x00\x16\x00\x0D\xCD\xF1\x00\x08\x00\x0Eab\xCD\xF1\x00\x08\x00\x0Ecd";
+    /// let units = cdf::Reader::new(stream).collect::<Result<Vec<_>, _>>()?;
+    /// let told: Vec<_> = units.iter().map(|unit| (unit.depth(), unit.rank())).collect();
+    /// assert_eq!(told, [(1, 0), (2, 0), (2, 1)]);
+    /// # Ok::<(), cdf::Refusal>(())
+    /// ```
+    pub fn rank(&self) -> usize {
+        self.rank
     }
 
     /// All its bytes, with those of the units in it.
@@ -236,6 +257,8 @@ impl fmt::Debug for Unit<'_> {
             .field("start", &self.start)
             .field("own_end", &self.own_end)
             .field("end", &self.end)
+            .field("depth", &self.depth)
+            .field("rank", &self.rank)
             .finish()
     }
 }

@@ -38,6 +38,31 @@ fn units_say_what_was_built() {
     assert_eq!((units[7].number(), units[7].position()), (Some(3), None));
     assert_eq!((units[0].bytes(), units[0].end()), (&stream[..], stream.len()));
     assert_eq!(units[1].own_end(), units[2].start());
+    let told: Vec<_> = units.iter().map(|unit| (unit.depth(), unit.rank())).collect();
+    assert_eq!(told, [(1, 0), (2, 0), (3, 0), (3, 1), (2, 1), (3, 0), (4, 0), (3, 1)]);
+}
+
+/// Depths are those of the listing, and ranks are what the units before tell, also of bytes that are refused further on.
+#[test]
+fn depths_and_ranks_are_those_of_all_units_before() {
+    let whole = calls(&group());
+    for damaged in [None, Some(whole.len() - 1), Some(whole.len() / 2)] {
+        let mut stream = whole.clone();
+        damaged.into_iter().for_each(|at| stream[at] = 0);
+        let units: Vec<_> = Reader::new(&stream).map_while(Result::ok).collect();
+        for (at, unit) in units.iter().enumerate() {
+            let around = |other: &&cdf::Unit| other.start() < unit.start() && unit.start() < other.end();
+            let outer: Vec<_> = units[..at].iter().filter(around).collect();
+            let inside = outer.last().map_or(0, |outer| outer.start() + 1);
+            let siblings = units[..at].iter().filter(|other| other.depth() == unit.depth() && other.start() >= inside);
+            assert_eq!((unit.depth(), unit.rank()), (outer.len() + 1, siblings.count()), "{unit:?}");
+        }
+        if damaged.is_none() {
+            let listed = cdf::listing(&stream);
+            let depths = listed.lines().take(units.len()).map(|line| line.split(' ').nth(1).unwrap().to_string());
+            assert!(depths.eq(units.iter().map(|unit| unit.depth().to_string())));
+        }
+    }
 }
 
 /// Of every front of a stream, and of every stream with one byte changed, the reader ends as the check does.
@@ -84,15 +109,18 @@ fn skipping_taking_and_repeating() {
     assert_eq!(reader.next().unwrap().unwrap().id(), Id::Stream);
     assert_eq!(reader.take_group(), Err(NOTHING), "it is no group");
     let call = reader.next().unwrap().unwrap();
+    assert_eq!((call.depth(), call.rank()), (2, 0));
     assert_eq!(reader.previous(), Ok(call));
     reader.skip_unit().unwrap();
     assert_eq!(reader.skip_unit(), Err(NOTHING), "it is passed already");
+    assert_eq!(reader.previous(), Ok(call), "depth and rank too");
     let found = reader.next().unwrap().unwrap();
-    assert_eq!(found.id(), Id::ErGroup);
+    assert_eq!((found.id(), found.depth(), found.rank()), (Id::ErGroup, 2, 1), "the call that was skipped is one");
     let taken = reader.take_group().unwrap();
     assert_eq!((taken, found.bytes()), (&inner[..], &inner[..]));
     let last = reader.next().unwrap().unwrap();
     assert_eq!((last.id(), last.name()), (Id::Call, Some("DONE")));
+    assert_eq!((last.depth(), last.rank()), (2, 2), "and so is the group that was taken");
     assert!(reader.next().is_none());
     assert!(reader.next().is_none());
     // The group is a part of the stream, and not of the reader.

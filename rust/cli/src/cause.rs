@@ -83,7 +83,7 @@ fn by_length(file: &Input) -> Option<String> {
 
 /// A value that ends inside a character of UTF-8, where the rest of that character stands behind it.
 fn by_letters(bytes: &[u8], units: &Units) -> Option<String> {
-    let (unit, _) = units.all.last()?;
+    let unit = units.all.last()?;
     let value = unit.value()?;
     let cut = std::str::from_utf8(value).is_err_and(|error| error.error_len().is_none());
     let behind = bytes.get(unit.end()).is_some_and(|byte| (0x80..0xC0).contains(byte));

@@ -216,10 +216,7 @@ impl<'a> Fault<'a> {
     }
 
     fn json(&self) -> String {
-        let listed = |unit: &cdf::Unit| {
-            let depth = self.units.all.iter().find(|(other, _)| other.start() == unit.start()).map_or(0, |(_, depth)| *depth);
-            object(unit, depth).text("found_by", &self.units.found_by(unit)).end()
-        };
+        let listed = |unit: &cdf::Unit| object(unit).text("found_by", &self.units.found_by(unit)).end();
         let open = self.why.open.iter().filter_map(|open| self.units.at(open.start)).map(listed);
         let refused_unit = Object::new()
             .number("start", self.start as u64)

@@ -29,10 +29,11 @@ The exit status is 1 for a refusal.",
     ),
     (
         "show",
-        "show [--json] [--offsets] [FILE]",
+        "show [--json] [--offsets] [--ranks] [FILE]",
         "\
-Shows the tree: a line for each unit, indented, with its action, kind, name, number and value. Of a refused file all units
-before the fault are shown, and then the fault in words. --offsets begins each line with where the unit starts.
+Shows the tree: a line for each unit, indented by its depth, with its action, kind, name, number and value. Of a refused file all
+units before the fault are shown, and then the fault in words. --offsets begins each line with where the unit starts; --ranks puts
+before each unit, in brackets, how many stand before it directly in the same unit. With --json depth and rank are always there.
 On a terminal lines are cut at its width. The exit status is 1 for a refusal.",
     ),
     (

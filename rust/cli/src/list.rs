@@ -18,7 +18,7 @@ pub fn run(args: &mut Args, out: &mut Out) -> Result<End, Stop> {
     let made = match cdf::check(&file.bytes) {
         Ok(count) => {
             let units = Units::of(&file.bytes);
-            let listed = units.all.iter().map(|(unit, depth)| object(unit, *depth).end());
+            let listed = units.all.iter().map(|unit| object(unit).end());
             made.boolean("accepted", true).number("units", count as u64).raw("listing", &json::list(listed))
         }
         Err(refusal) => refused(made.boolean("accepted", false), &refusal),

@@ -40,7 +40,7 @@ impl<'a> Saved<'a> {
     fn kept(&self) -> Vec<Kept<'_, 'a>> {
         let (mut skipped, mut runs) = (0, self.dropped.iter().map(|run| &run.place).peekable());
         let mut kept = Vec::new();
-        for (unit, _) in self.units.all.iter().filter(|(_, depth)| *depth == 2) {
+        for unit in self.units.all.iter().filter(|unit| unit.depth() == 2) {
             while let Some(run) = runs.next_if(|run| run.start <= unit.start() + skipped) {
                 skipped += run.len();
             }
@@ -121,7 +121,7 @@ impl<'a> Saved<'a> {
         let mut missing = Vec::new();
         for (relation, place) in kept.iter().filter(|(unit, _)| matches!(unit.id(), Id::Relation | Id::OrderedRelation)) {
             let inside = |unit: &&Unit| relation.start() < unit.start() && unit.start() < relation.end() && unit.id() == Id::EntityKey;
-            for entity in self.units.all.iter().map(|(unit, _)| unit).filter(inside) {
+            for entity in self.units.all.iter().filter(inside) {
                 if let Some(number) = key(entity).filter(|number| !has(entity.name(), *number)) {
                     let name = entity.name().unwrap_or_default().to_string();
                     // Where its key can be read, and else a template of its name.

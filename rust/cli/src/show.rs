@@ -11,7 +11,7 @@ use crate::units::{object, refused, whole, Units};
 use crate::{input, json, End, Stop};
 
 pub fn run(args: &mut Args, out: &mut Out) -> Result<End, Stop> {
-    let (as_json, offsets) = (args.flag("--json"), args.flag("--offsets"));
+    let (as_json, offsets, ranks) = (args.flag("--json"), args.flag("--offsets"), args.flag("--ranks"));
     let file = input::read(&args.one_file()?)?;
     let why = cdf::explain(&file.bytes);
     let fault = why.as_ref().map(|why| Fault::new(&file, why));
@@ -24,7 +24,7 @@ pub fn run(args: &mut Args, out: &mut Out) -> Result<End, Stop> {
         }
     };
     if as_json {
-        let listed = units.all.iter().map(|(unit, depth)| object(unit, *depth).end());
+        let listed = units.all.iter().map(|unit| object(unit).end());
         let made = Object::new().text("file", &file.name).boolean("accepted", fault.is_none()).raw("units", &json::list(listed));
         let made = match (&fault, &why) {
             (Some(fault), Some(why)) => refused(made, &why.refusal).text("says", &fault.sentence()),
@@ -35,12 +35,13 @@ pub fn run(args: &mut Args, out: &mut Out) -> Result<End, Stop> {
         let digits = file.bytes.len().to_string().len();
         let margin = |start: usize| if offsets { format!("{start:>digits$}  ") } else { String::new() };
         let width = out.width();
-        for (unit, depth) in &units.all {
+        for unit in &units.all {
+            let rank = if ranks { format!("[{}] ", unit.rank()) } else { String::new() };
             let action = match unit.action() {
                 Action::None => String::new(),
                 action => format!("{action} "),
             };
-            let line = format!("{}{}{action}{}", margin(unit.start()), "  ".repeat(depth - 1), whole(unit));
+            let line = format!("{}{}{rank}{action}{}", margin(unit.start()), "  ".repeat(unit.depth() - 1), whole(unit));
             out.write(&format!("{}\n", cut(&line, width)))?;
         }
         if let (Some(fault), Some(why)) = (&fault, &why) {

@@ -5,9 +5,9 @@ use cdf::{Action, Id, Reader, Refusal, Unit};
 use crate::escape::quoted;
 use crate::json::{self, Object};
 
-/// What a reader hands out of some bytes: the units up to the first that is refused, each with its depth.
+/// What a reader hands out of some bytes: the units up to the first that is refused.
 pub struct Units<'a> {
-    pub all: Vec<(Unit<'a>, usize)>,
+    pub all: Vec<Unit<'a>>,
     /// Where the next unit stands, or would have to stand, behind those handed out.
     pub next: usize,
 }
@@ -15,27 +15,23 @@ pub struct Units<'a> {
 impl<'a> Units<'a> {
     pub fn of(stream: &'a [u8]) -> Units<'a> {
         let (mut all, mut next) = (Vec::new(), 0);
-        let mut around: Vec<usize> = Vec::new();
         let mut reader = Reader::new(stream);
         while let Some(Ok(unit)) = reader.next() {
-            around.retain(|&end| unit.start() < end);
-            around.push(unit.end());
             // A unit that can be skipped admits others, and they begin where its own data ends.
             next = if reader.clone().skip_unit().is_ok() { unit.own_end() } else { unit.end() };
-            all.push((unit, around.len()));
+            all.push(unit);
         }
         Units { all, next }
     }
 
     /// The unit that begins there.
     pub fn at(&self, start: usize) -> Option<&Unit<'a>> {
-        self.all.iter().map(|(unit, _)| unit).find(|unit| unit.start() == start)
+        self.all.iter().find(|unit| unit.start() == start)
     }
 
     /// The first unit in another that is one of these kinds.
     pub fn first_in(&self, outer: &Unit<'a>, ids: &[Id]) -> Option<&Unit<'a>> {
-        let mut inside = self.all.iter().map(|(unit, _)| unit);
-        inside.find(|unit| outer.start() < unit.start() && unit.start() < outer.end() && ids.contains(&unit.id()))
+        self.all.iter().find(|unit| outer.start() < unit.start() && unit.start() < outer.end() && ids.contains(&unit.id()))
     }
 
     /// A unit as a person finds it: kind, name or number, and of a template its first key and its first field.
@@ -54,7 +50,7 @@ impl<'a> Units<'a> {
 
     /// The last template that is whole before a byte.
     pub fn last_template(&self, before: usize) -> Option<&Unit<'a>> {
-        self.all.iter().rev().map(|(unit, _)| unit).find(|unit| unit.id() == Id::Template && unit.end() <= before)
+        self.all.iter().rev().find(|unit| unit.id() == Id::Template && unit.end() <= before)
     }
 }
 
@@ -85,11 +81,12 @@ pub fn whole(unit: &Unit) -> String {
 }
 
 /// A unit as a field of JSON.
-pub fn object(unit: &Unit, depth: usize) -> Object {
+pub fn object(unit: &Unit) -> Object {
     Object::new()
         .number("start", unit.start() as u64)
         .number("end", unit.end() as u64)
-        .number("depth", depth as u64)
+        .number("depth", unit.depth() as u64)
+        .number("rank", unit.rank() as u64)
         .number("id", unit.id().number())
         .text("kind", &unit.id().to_string())
         .text("action", &unit.action().to_string())

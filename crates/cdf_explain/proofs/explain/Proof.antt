@@ -60,7 +60,7 @@ loop-again c =
     let s = turn .before .before .before .args .s .now in
     let a = turn .loop .a in
     let before = turn .loop .inv .0 .0 in (
-      (a .unit ∷ before, rw (c .next .ensures .0) (turned (layoutOf First) s before (replyOf a) (turn .loop .inv .0 .1) (more .if1 .taken) .next)),
+      (a .handed .unit ∷ before, rw (c .next .ensures .0) (turned (layoutOf First) s before (replyOf a) (turn .loop .inv .0 .1) (more .if1 .taken) .next)),
       λ z. (rw (← c .next .ensures .0) at (next-later (layoutOf First) s (view (a .place)))) z .1,
     )
 

@@ -5,7 +5,7 @@ use Rattle.cdf_unit_prefix.specs.declared.Edition.the-variants.{First}
 use Rattle.cdf_reader_runs.proofs.Further.{ahead}
 use Rattle.cdf_listing_spec.specs.Text.{lineOf}
 use Rattle.cdf_listing_lines.proofs.Putting.{put-length}
-use Rattle.cdf_listing.proofs.Lining.{Lined, lined-first, lined-over, lined-few, lined-ordered, lined-near, lined-next, lined-less}
+use Rattle.cdf_listing.proofs.Lining.{Lined, lined-first, lined-over, lined-ordered, lined-near, lined-next, lined-less}
 use Rattle.cdf_listing.proofs.put_units.Statement.{statement}
 use Rattle.cdf_listing.proofs.put_units.Tie as tie
 
@@ -22,17 +22,13 @@ loop-holds : tie.Need-loop-holds Inv-loop μ-loop
 loop-holds c =
     let a = c .before .before .before .args in lined-first (a .s .now) (a .out .now) (c .first .result) (c .first .ensures .0)
 
-depth-of-requires : tie.Need-depth-of-requires Inv-loop μ-loop
-depth-of-requires c κs =
-    let more = c .before .before in lined-few _ (more .before .before .loop .inv) (more .if1 .taken)
-
 sub-size : tie.Need-sub-size Inv-loop μ-loop
 sub-size c =
-    let more = c .before .before .before .before in lined-ordered _ (more .before .before .loop .inv) (more .if1 .taken)
+    let more = c .before .before .before in lined-ordered _ (more .before .before .loop .inv) (more .if1 .taken)
 
 cast-put-line : tie.Need-cast-put-line Inv-loop μ-loop
 cast-put-line c =
-    let more = c .before .before .before .before .before in
+    let more = c .before .before .before .before in
     let near = lined-near _ (more .before .before .loop .inv) (more .if1 .taken) in
     search needs
 
@@ -44,17 +40,16 @@ next-requires c κs = search needs
 
 loop-less : tie.Need-loop-less Inv-loop μ-loop
 loop-less c =
-    let more = c .before .before .before .before .before .before .before .before .before in
+    let more = c .before .before .before .before .before .before .before .before in
     lined-less _ (more .before .before .loop .inv) (more .if1 .taken) (c .next .result) (c .next .ensures .0)
 
 loop-again : tie.Need-loop-again Inv-loop μ-loop
 unfolding lineOf
 loop-again c =
     let line = c .before .before .before in
-    let depth = line .before .before .before in
-    let more = depth .before .before .before in
+    let more = line .before .before .before .before .before in
     lined-next _ (more .before .before .loop .inv) (more .if1 .taken) (c .next .result) (c .next .ensures .0)
-    (rw (depth .depth-of .ensures) at (line .put-line .ensures))
+    (line .put-line .ensures)
 
 returns : tie.Need-returns Inv-loop μ-loop
 returns c = lined-over _ (c .before .before .loop .inv) (c .if1 .left)
@@ -70,7 +65,6 @@ put-units-spec =
     μ-loop
     first-requires
     loop-holds
-    depth-of-requires
     sub-size
     cast-put-line
     put-line-requires

@@ -11,10 +11,10 @@ use Rattle.cdf_reader.specs.View.{view, replyOf}
 use Rattle.cdf_reader_runs.proofs.Further.{first-later, next-later, ahead, less}
 use Rattle.cdf_reader_runs.proofs.Folding.{Going, begun, Turn, turned}
 use Rattle.cdf_lookup_spec.specs.Find.{Query, query}
-use Rattle.cdf_lookup_spec.specs.Search.{advanceOf, outcomeOf}
+use Rattle.cdf_lookup_spec.specs.Search.{outcomeOf}
 use Rattle.cdf_lookup_spec.specs.declared.Search.the-variants.{Seeking}
 use Rattle.cdf_lookup_search.specs.Placed.{Placed}
-use Rattle.cdf_lookup_search.proofs.Searched.{nowhere, lies-in, goes-on, keeps-place, searched, over-early}
+use Rattle.cdf_lookup_search.proofs.Searched.{nowhere, seek, lies-in, goes-on, keeps-place, searched, over-early}
 use Rattle.cdf_lookup_search.proofs.search.Statement.{statement}
 use Rattle.cdf_lookup_search.proofs.search.Tie as tie
 
@@ -23,7 +23,7 @@ l = layoutOf First
 
 abbrev Inv-loop : tie.InvT-loop
 Inv-loop s template kind key field a₀ state₀ a state =
-    Going (advanceOf l s (query template kind key field)) l s Seeking (replyOf a) state
+    Going (seek l s (query template kind key field)) l s Seeking (replyOf a) state
     × (a .number ≡ 0 → a .place .position ≤ length s)
     × Placed (length s) (outcomeOf state)
 
@@ -41,9 +41,9 @@ asked turn =
 
 -- The unit in hand lies in the bytes, and the loop goes on from it.
 in-hand : (turn : tie.At-loop Inv-loop μ-loop) → turn .loop .a .number ≡ 0 →
-    Turn (advanceOf l (bytes turn) (asked turn)) l (bytes turn) Seeking (replyOf (turn .loop .a)) (turn .loop .state)
+    Turn (seek l (bytes turn) (asked turn)) l (bytes turn) Seeking (replyOf (turn .loop .a)) (turn .loop .state)
 in-hand turn z =
-    turned (advanceOf l (bytes turn) (asked turn)) l (bytes turn) Seeking (replyOf (turn .loop .a)) (turn .loop .state) (turn .loop .inv .0) z
+    turned (seek l (bytes turn) (asked turn)) l (bytes turn) Seeking (replyOf (turn .loop .a)) (turn .loop .state) (turn .loop .inv .0) z
 
 -- Where it was folded in.
 module _ (step : tie.After-advance Inv-loop μ-loop) where
@@ -53,7 +53,7 @@ module _ (step : tie.After-advance Inv-loop μ-loop) where
   abbrev taken : head .loop .a .number ≡ 0
   taken = step .before .before .if1 .taken
 
-  on : Going (advanceOf l (bytes head) (asked head)) l (bytes head) Seeking (nextOf l (bytes head) (view (head .loop .a .place)))
+  on : Going (seek l (bytes head) (asked head)) l (bytes head) Seeking (nextOf l (bytes head) (view (head .loop .a .place)))
       (step .advance .result)
   on = goes-on l (bytes head) (asked head) (replyOf (head .loop .a)) (head .loop .state) (in-hand head taken) _ (step .advance .ensures)
 

@@ -1,4 +1,4 @@
--- Nine stores at the front.
+-- Eleven stores at the front.
 use native.Mathlib.Omega.{arith}
 use borrow.Author.Needs.{needs}
 use lib.ListN.{length-set}
@@ -58,12 +58,24 @@ element-copy-out-tail-8 c = search needs
 slice-write-tail-9 : tie.Need-slice-write-tail-9
 slice-write-tail-9 c = simp length-set (omega arith)
 
+element-copy-out-tail-9 : tie.Need-element-copy-out-tail-9
+element-copy-out-tail-9 c = search needs
+
+slice-write-tail-10 : tie.Need-slice-write-tail-10
+slice-write-tail-10 c = simp length-set (omega arith)
+
+element-copy-out-tail-10 : tie.Need-element-copy-out-tail-10
+element-copy-out-tail-10 c = search needs
+
+slice-write-tail-11 : tie.Need-slice-write-tail-11
+slice-write-tail-11 c = simp length-set (omega arith)
+
 same-length : tie.Need-same-length
 same-length c = simp length-set
 
 returns : tie.Need-returns
 returns c =
-    let start = c .before .before .before .before .before .before .before .before in
+    let start = c .before .before .before .before .before .before .before .before .before .before in
     let a = start .args in
     sets-eq (entryFrom (a .number) (a .answer .now)) (a .tail .now) 0 (start .pre)
 
@@ -88,5 +100,9 @@ write-entry-spec =
     slice-write-tail-8
     element-copy-out-tail-8
     slice-write-tail-9
+    element-copy-out-tail-9
+    slice-write-tail-10
+    element-copy-out-tail-10
+    slice-write-tail-11
     same-length
     returns)

@@ -1,7 +1,7 @@
 -- By the judgement of the root (proofs/Starting).
 use mathlib.Core.Path.{refl, sym, ap, _∙_}
 use borrow.Author.Needs.{needs}
-use Rattle.cdf_reader_spec.specs.Slots.{openUnits}
+use Rattle.cdf_reader_spec.specs.Slots.{openUnits, openRanks}
 use Rattle.cdf_reader_cursor.specs.Outcomes.{outcomeReply}
 use Rattle.cdf_reader_cursor.specs.declared.Outcome.{Outcome}
 use Rattle.cdf_reader_cursor.proofs.Starting.{first-fault, first-found}
@@ -26,8 +26,11 @@ enum-known-id c = search needs
 no-open-requires : tie.Need-no-open-requires
 no-open-requires c κs = search needs
 
+no-ranks-requires : tie.Need-no-ranks-requires
+no-ranks-requires c κs = search needs
+
 returns : tie.Need-returns
-unfolding openUnits
+unfolding openUnits openRanks
 returns c =
     let told = c .before .before .before in
     let judged = sym (told .before .before .judge-root .ensures) ∙ told .number .given .1 in
@@ -36,9 +39,9 @@ returns c =
 
 returns-2 : tie.Need-returns-2
 returns-2 c =
-    let told = c .before .before in
+    let told = c .before .before .before in
     let judged = sym (told .before .before .judge-root .ensures) ∙ told .id .given .1 in
-    (rw (c .no-open .ensures) (sym (first-found _ _ judged)), λ some. absurd (some refl))
+    (rw (c .no-ranks .ensures, c .before .no-open .ensures) (sym (first-found _ _ judged)), λ some. absurd (some refl))
 
 pub first-as-spec : {M : Type 1} → statement M
 first-as-spec =
@@ -50,5 +53,6 @@ first-as-spec =
     refused-requires
     enum-known-id
     no-open-requires
+    no-ranks-requires
     returns
     returns-2)

@@ -3,11 +3,11 @@ use borrow.Author.Needs.{needs}
 use Rattle.cdf_reader_cursor.proofs.moved.Statement.{statement}
 use Rattle.cdf_reader_cursor.proofs.moved.Tie as tie
 
-no-unit-requires : tie.Need-no-unit-requires
-no-unit-requires c κs = search needs
+no-ranked-requires : tie.Need-no-ranked-requires
+no-ranked-requires c κs = search needs
 
 returns : tie.Need-returns
-returns c = rw (c .no-unit .ensures)
+returns c = rw (c .no-ranked .ensures)
 
 pub moved-spec : {M : Type 1} → statement M
-moved-spec = tie.close (tie.spec no-unit-requires returns)
+moved-spec = tie.close (tie.spec no-ranked-requires returns)

@@ -1,10 +1,12 @@
 -- 11, 2, and else what the call does (proofs/Asking): `Else1` is the place past the first test, `Else2` that past the second.
-use mathlib.Core.Path.{_≡_, sym, _∙_}
+use mathlib.Core.Path.{_≡_, sym, ap, _∙_}
 use mathlib.Core.Bool.{true}
 use borrow.Author.Needs.{needs}
 use borrow.Author.Tests.{not-true, not-false}
+use lib.ListN.{length}
 use Rattle.cdf_unit_prefix.specs.Layout.{layoutOf}
-use Rattle.cdf_reader_step.proofs.Asking.{Use, ready, useless, unfit, fit-next, starts, steps, skips, takes, again}
+use Rattle.cdf_reader_spec.specs.Calls.{isStart}
+use Rattle.cdf_reader_step.proofs.Asking.{Use, ready, useless, unfit, fit-needed, counts, starts, steps, skips, takes, again}
 use Rattle.cdf_reader_step.proofs.call_at.Statement.{statement}
 use Rattle.cdf_reader_step.proofs.call_at.Tie as tie
 
@@ -55,7 +57,7 @@ step-requires : tie.Need-step-requires
 step-requires c κs =
     let go = c .before .before in
     let a = go .before .before .before .before .before .args in
-    fit-next (a .c) _ (a .s .now) _ (fit go) (c .enum-told2 .given .1)
+    fit-needed (a .c) _ (a .s .now) (a .call) (fit go) (ap isStart (c .enum-told2 .given .1))
 
 enum-told-3 : tie.Need-enum-told-3
 enum-told-3 c = search needs
@@ -71,6 +73,13 @@ pass-requires-2 c κs = search needs
 
 enum-told-5 : tie.Need-enum-told-5
 enum-told-5 c = search needs
+
+last-depth-requires : tie.Need-last-depth-requires
+last-depth-requires c κs =
+    let go = c .before .before .before in
+    let a = go .before .before .before .before .before .args in
+    counts (a .c) (layoutOf (a .edition)) (length (a .s .now))
+    (fit-needed (a .c) (layoutOf (a .edition)) (a .s .now) (a .call) (fit go) (ap isStart (c .before .enum-told5 .given .1)))
 
 returns-3 : tie.Need-returns-3
 returns-3 c =
@@ -96,8 +105,8 @@ returns-6 c =
 
 returns-7 : tie.Need-returns-7
 returns-7 c =
-    let go = c .before .before .before in
-    again _ _ _ _ (may (go .before .before)) (fit go) (c .before .enum-told5 .given .1)
+    let go = c .before .before .before .before in
+    again _ _ _ _ (may (go .before .before)) (fit go) (c .before .before .enum-told5 .given .1) _ (c .last-depth .ensures)
 
 pub call-at-spec : {M : Type 1} → statement M
 call-at-spec =
@@ -118,6 +127,7 @@ call-at-spec =
     enum-told-4
     pass-requires-2
     enum-told-5
+    last-depth-requires
     returns-3
     returns-4
     returns-5

@@ -1,6 +1,6 @@
 -- Each return by its law (proofs/Stepped). `Else1` is the place past the test that a unit is left open, `Else2` that past the test
 -- that it ends later, and `After-judge` that past the judge; at each it is said once what is known there.
-use Prim.Native.Nat.{ℕ, _+_, _≤_}
+use Prim.Native.Nat.{ℕ, suc, _+_, _≤_}
 use mathlib.Core.Path.{_≡_, sym, ap, _∙_}
 use native.Mathlib.Omega.{arith}
 use borrow.Author.Needs.{needs}
@@ -10,7 +10,7 @@ use Rattle.cdf_reader_spec.specs.Calls.{stepped}
 use Rattle.cdf_reader_cursor.specs.Outcomes.{cursorPlace, outcomeReply}
 use Rattle.cdf_reader_cursor.specs.Entering.{entering}
 use Rattle.cdf_reader_cursor.specs.declared.Outcome.{Outcome}
-use Rattle.cdf_reader_step.proofs.Stepped.{at-end, at-incomplete, inside-fault, enters-found, within, unit-within, fault-within}
+use Rattle.cdf_reader_step.proofs.Stepped.{at-end, at-incomplete, inside-fault, few, deeper, enters-found, within, unit-within, fault-within}
 use Rattle.cdf_reader_step.proofs.step.Statement.{statement}
 use Rattle.cdf_reader_step.proofs.step.Tie as tie
 
@@ -104,6 +104,23 @@ add-own-end c = omega (arith, unit-lies (c .before .before .before) (c .before .
 add-end : tie.Need-add-end
 add-end c = omega (arith, unit-lies (c .before .before .before) (c .before .id .given .1))
 
+add-depth : tie.Need-add-depth
+add-depth c =
+    let some = c .before .before .before .before .before .before .before .before in
+    let shut = some .before .before in
+    let start = shut .before .before .before .before .before .before in
+    omega (arith, few _ (start .args .s .now) (start .args .c) (start .pre) _ _ (shut .close .ensures) (some .if1 .left))
+
+next-rank-requires : tie.Need-next-rank-requires
+next-rank-requires c κs =
+    let seen = c .before .before .before .before in
+    let some = seen .before .before .before .before in
+    let shut = some .before .before in
+    let start = shut .before .before .before .before .before .before in
+    let e = c .before .before .id .given .1 in
+    deeper _ (start .args .s .now) (start .args .c) (start .pre) _ _ (shut .close .ensures) (some .if1 .left)
+    (sym (seen .judge .ensures) ∙ e) (omega (arith, unit-lies seen e, start .good .1 .1 .0 .1)) _ (omega arith)
+
 enter-requires : tie.Need-enter-requires
 enter-requires c κs = search needs
 
@@ -125,14 +142,17 @@ returns-3 c =
 returns-4 : tie.Need-returns-4
 unfolding entering
 returns-4 c =
-    let seen = c .before .before .before .before in
+    let found = c .before .before .before .before in
+    let seen = found .before .before in
     let apart = seen .before .before in
     let some = apart .before .before in
     let shut = some .before .before in
     let start = shut .before .before .before .before .before .before in
-    let e = sym (seen .judge .ensures) ∙ c .before .before .id .given .1 in (
+    let e = sym (seen .judge .ensures) ∙ found .id .given .1 in
+    let count = shut .close .result .count in
+    let deep : count + 1 ≡ suc count = omega arith in (
       ap outcomeReply (c .enter .ensures)
-          ∙ enters-found _ _ _ (start .pre) _ _ (shut .close .ensures) (some .if1 .left) (apart .if2 .left) e,
+          ∙ enters-found _ _ _ (start .pre) _ _ (shut .close .ensures) (some .if1 .left) (apart .if2 .left) e _ _ deep (c .before .next-rank .ensures),
       λ some. absurd (some (ap (λ (r : Outcome). r .number) (c .enter .ensures))),
     )
 
@@ -155,6 +175,8 @@ step-spec =
     enum-known-id
     add-own-end
     add-end
+    add-depth
+    next-rank-requires
     enter-requires
     returns-3
     returns-4)
