@@ -10,7 +10,7 @@ use lib.ListN.{length}
 use Rattle.cdf_unit_table.specs.Ids.{erGroup}
 use Rattle.cdf_unit_prefix.specs.Layout.{Layout, prefixOf}
 use Rattle.cdf_grammar.specs.Encoding.{unitBytes}
-use Rattle.cdf_rescue_spec.specs.Salvage.{pieces, keptBytes, Run, runsOf, Rescued, refusal, mostRuns, groupOf, rescued, rescueOf}
+use Rattle.cdf_rescue_spec.specs.Salvage.{pieces, keptBytes, Run, runsOf, Rescued, mostRuns, groupOf, rescued, rescueOf}
 
 -- To unfold these would unfold the pieces and the prefix too.
 pub rescue-is : (l : Layout) (room : ℕ) (s : List ℕ) →

@@ -8,8 +8,8 @@ use native.Mathlib.Nat.{suc-mul, mul-le-mul-right}
 use lib.ListN.{length, getD}
 use Rattle.cdf_unit_prefix.specs.Layout.{Layout, prefixOf}
 use Rattle.cdf_unit_judge.specs.Judge.{judgeOf}
-use Rattle.cdf_unit_list.specs.Units.{openAt, inside, firstStarts, listing, listBy, depths}
-use Rattle.cdf_unit_list.specs.Ranks.{rankIn, standing, ranked, rankedUnits}
+use Rattle.cdf_unit_list.specs.Units.{openAt, inside, firstStarts, listBy, depths}
+use Rattle.cdf_unit_list.specs.Ranks.{rankIn, ranked}
 use Rattle.cdf_unit_list.specs.Stack.{Step, done, refused, found, entered, step}
 use Rattle.cdf_unit_list.specs.Steps.{stepsFrom, steps}
 use Rattle.cdf_unit_list.specs.declared.Unit.{Unit}
