@@ -45,10 +45,6 @@ one-split {w} (u ∷ us) vs o = go (first-or o refl) (one-split us vs)
         on (inl o) = inl (there o)
         on (inr o) = inr o
 
-pub one-left : {w : Unit} {us : List Unit} (vs : List Unit) → OneOf w us → OneOf w (us ++ vs)
-one-left vs here = here
-one-left vs (there o) = there (one-left vs o)
-
 pub one-right : {w : Unit} (us : List Unit) {vs : List Unit} → OneOf w vs → OneOf w (us ++ vs)
 one-right [] o = o
 one-right (u ∷ us) o = there (one-right us o)

@@ -32,12 +32,6 @@ Counted us [] ks r = ks ≡ []
 Counted us (o ∷ os) [] r = ⊥
 Counted us (o ∷ os) (k ∷ ks) r = (length (inside (o .start) us) ≡ r) × Counted us os ks (suc k)
 
--- Each has its rank.
-pub counted-length : (us : List Unit) (os : List Open) (ks : List ℕ) (r : ℕ) → Counted us os ks r → length ks ≡ length os
-counted-length us [] ks r h = rw h
-counted-length us (o ∷ os) [] r h = absurd h
-counted-length us (o ∷ os) (k ∷ ks) r h = rw (counted-length us os ks (suc k) (h .1))
-
 -- The innermost unit is one that starts there, or not.
 abbrev pub Innermost : Bool → ℕ → List Open → Type 0
 Innermost b at [] = ⊥
