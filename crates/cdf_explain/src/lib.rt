@@ -116,7 +116,7 @@ pub fn explain(s: &[u8]) -> Explained
     let mut a = first(s);
     while a.number == 0 {
         let p = a.place;
-        a = p.next(s);
+        a = p.advance(s);
     }
     if a.number == 1 {
         return Explained {

@@ -1,6 +1,6 @@
 -- The lines of the units in the buffer, turn by turn.
 use Prim.Native.Nat.{ℕ, _^_, _≤_, _<_}
-use mathlib.Core.Path.{_≡_, ap}
+use mathlib.Core.Path.{_≡_, ap, _∙_}
 use mathlib.Core.List.{List, [], _∷_}
 use native.Mathlib.Omega.{arith}
 use lib.ListN.{length, length-append}
@@ -10,8 +10,10 @@ use Rattle.cdf_reader_spec.specs.Calls.{firstOf, nextOf}
 use Rattle.cdf_unit_list.specs.declared.Unit.{Unit}
 use Rattle.cdf_reader_runs.proofs.Looping.{Going, begun, Turn, turned, over}
 use Rattle.cdf_reader_runs.proofs.Further.{first-later, next-later, ahead, less}
+use Rattle.cdf_reader_advance.specs.Advancing.{advanced}
 use Rattle.cdf_reader.specs.View.{view, replyOf}
 use Rattle.cdf_reader.specs.declared.Answer.{Answer}
+use Rattle.cdf_reader.proofs.Proved.{proved}
 use Rattle.cdf_listing_spec.specs.Text.{lineOf, listedLines}
 use Rattle.cdf_listing_spec.proofs.Short.{listed-short}
 use Rattle.cdf_listing_spec.proofs.Lines.{textOf, lines-on, lines-over, text-next}
@@ -62,16 +64,20 @@ module _ (s : List ℕ) where
         let lines = simp length-append at (ap length (lines-on (layoutOf First) s (w .units) (replyOf a) (w .going))) in
         omega (arith, listed-short s, w .put .next, lines)
 
-    pub lined-next : (r : Answer) → replyOf r ≡ nextOf (layoutOf First) s (view (a .place)) → {more : List ℕ} {next : ℕ} →
+    -- The place fits, so a step from it is NEXT.
+    is-next : (r : Answer) → replyOf r ≡ advanced (layoutOf First) s (view (a .place)) → replyOf r ≡ nextOf (layoutOf First) s (view (a .place))
+    is-next r e = e ∙ proved .advances (layoutOf First) s (view (a .place)) (here .fit)
+
+    pub lined-next : (r : Answer) → replyOf r ≡ advanced (layoutOf First) s (view (a .place)) → {more : List ℕ} {next : ℕ} →
         Put after at (lineBy a) more next → Lined before r more next
     lined-next r e p = record {
       units = a .handed .unit ∷ w .units;
-      going = rw e (here .next);
+      going = rw (is-next r e) (here .next);
       put = rw (text-next (layoutOf First) s (w .units) (replyOf a) here) (put-both (w .put) p);
-      inside = λ y. (rw (← e) at (next-later (layoutOf First) s (view (a .place)))) y .1;
+      inside = λ y. (rw (← is-next r e) at (next-later (layoutOf First) s (view (a .place)))) y .1;
     }
 
-    pub lined-less : (r : Answer) → replyOf r ≡ nextOf (layoutOf First) s (view (a .place)) →
+    pub lined-less : (r : Answer) → replyOf r ≡ advanced (layoutOf First) s (view (a .place)) →
         ahead (layoutOf First) s (r .number) (r .place .position) < ahead (layoutOf First) s (a .number) (a .place .position)
     lined-less r e =
-        less (layoutOf First) s _ _ (replyOf r) z (w .inside z) (rw (← e) at (next-later (layoutOf First) s (view (a .place))))
+        less (layoutOf First) s _ _ (replyOf r) z (w .inside z) (rw (← is-next r e) at (next-later (layoutOf First) s (view (a .place))))

@@ -30,7 +30,7 @@ fn put_units(s: &[u8], out: &mut [u8]) -> usize
         let unit = a.handed.unit;
         let size = unit.end - unit.start;
         at = put_line(out, at as u32, depth, unit, size);
-        a = p.next(s);
+        a = p.advance(s);
     }
     at
 }

@@ -133,7 +133,7 @@ pub fn search(s: &[u8], template: &[u8], kind: usize, key: &[u8], field: &[u8]) 
             return outcome(state);
         }
         let p = a.place;
-        a = p.next(s);
+        a = p.advance(s);
     }
     outcome(state)
 }

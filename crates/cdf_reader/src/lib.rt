@@ -8,9 +8,11 @@ ghost use Rattle.cdf_unit_prefix.specs.declared.Edition.the-variants.{First};
 ghost use Rattle.cdf_reader_spec.specs.Calls.{firstOf, nextOf, skipOf, takeOf, previousOf, abnormalEnd, callOf};
 ghost use Rattle.cdf_reader_spec.specs.declared.Call.the-variants.{Previous};
 ghost use Rattle.cdf_reader_spec.specs.Closing.{closedAt};
+ghost use Rattle.cdf_reader_advance.specs.Advancing.{advanced};
 ghost use Rattle.cdf_reader.specs.View.{view, replyOf, partAt, bytesOf, noPlace};
 ghost use Rattle.cdf_reader.specs.Uses.{placeKept};
 ghost use Rattle.cdf_reader.specs.Cursors.{cursorOf, answerOf};
+use cdf_reader_advance::advance;
 use cdf_reader_close::close;
 use cdf_reader_close::rank_at;
 use cdf_reader_cursor::Cursor;
@@ -124,6 +126,17 @@ impl Place {
     {
         let c = self.cursor();
         let o = next_at(c, Edition::First, s);
+        answered(o)
+    }
+
+    // NEXT without a test of the place, for loops: at a place that fits, as each is that a call returns with 0, it is NEXT (`advances`); at any
+    // other it may answer a number of its own.
+    pub fn advance(self, s: &[u8]) -> Answer
+        ensures is { λ r. ⌜ replyOf r ≡ advanced (layoutOf First) (now (s .entry)) (view self) ⌝ }
+        ensures kept { λ r. ⌜ ((r .number ≡ 0 → ⊥) → r .place ≡ self) ⌝ }
+    {
+        let c = self.cursor();
+        let o = advance(c, Edition::First, s);
         answered(o)
     }
 

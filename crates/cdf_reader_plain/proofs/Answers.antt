@@ -22,10 +22,9 @@ use Rattle.cdf_reader_spec.specs.Ranking.{handedAt}
 use Rattle.cdf_reader_spec.specs.Calls.{Reply, Part, emptyPlace, refuse, moveTo, placeAt, stepped, untouched, passed, passing, isGroup, noPart}
 use Rattle.cdf_reader_spec.specs.Calls.{firstOf, nextOf, skipOf, takeOf, partOf, previousOf, callOf, partTaken}
 use Rattle.cdf_reader_spec.proofs.Fitting.{fitting}
-use Rattle.cdf_reader_spec.proofs.Replying.{start as startStep, first-is}
+use Rattle.cdf_reader_spec.proofs.Replying.{start as startStep, first-is, next-is}
 use Rattle.cdf_reader_runs.proofs.Around.{lies}
 use Rattle.cdf_reader_runs.proofs.Keeps.{Keeps, first-keeps, next-keeps}
-use Rattle.cdf_reader_runs.proofs.Replies.{next-is}
 use Rattle.cdf_reader_runs.proofs.Steps.{Run, ends, breaks, hands}
 use Rattle.cdf_reader_runs.proofs.Looping.{Behind, Goes, goes as goesOn, leads, rankDue}
 use Rattle.cdf_reader_spec.specs.declared.Call.{Call}

@@ -21,11 +21,10 @@ use Rattle.cdf_reader_spec.specs.Calls.{Reply, refuse, moveTo, stepped, nextOf,
 use Rattle.cdf_reader_spec.specs.Calls.{emptyPlace, give, placeAt, firstOf, previousOf}
 use Rattle.cdf_reader_spec.proofs.Fitting.{fitting, fits-true}
 use Rattle.cdf_reader_spec.proofs.Opened.{kinds-states, chain-clauses}
-use Rattle.cdf_reader_spec.proofs.Replying.{start, first-is, next-tests, passing-tests, skip-is, take-is, part-is, previous-tests}
+use Rattle.cdf_reader_spec.proofs.Replying.{start, first-is, next-tests, passing-tests, skip-is, take-is, part-is, previous-tests, next-is}
 use Rattle.cdf_reader_runs.proofs.Ranking.{low-later}
 use Rattle.cdf_reader_runs.proofs.Around.{Around, lies, position-in, with-state, fitting-held}
 use Rattle.cdf_reader_runs.proofs.Keeps.{Keeps, first-keeps, next-keeps}
-use Rattle.cdf_reader_runs.proofs.Replies.{next-is}
 use Rattle.cdf_reader_plain.specs.Claims.{Fits, Again}
 
 -- The last unit ends where the innermost open one does, if it is that one.

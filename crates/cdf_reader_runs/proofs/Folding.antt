@@ -1,6 +1,7 @@
 -- A loop of a start and nexts that folds the units it is handed.
 use Prim.Native.Nat.{ℕ, _+_, _≤_}
 use mathlib.Core.Path.{_≡_, refl, ap, _∙_}
+use mathlib.Core.Bool.{true}
 use mathlib.Core.List.{List, [], _∷_, foldl, reverseAux}
 use native.Mathlib.Omega.{arith}
 use borrow.Author.Tests.{ne-eqb}
@@ -13,7 +14,7 @@ use Rattle.cdf_unit_list.specs.Ranks.{standing, ranked, rankedUnits}
 use Rattle.cdf_unit_list.specs.declared.Unit.{Unit}
 use Rattle.cdf_unit_list.specs.declared.Ranked.{Ranked}
 use Rattle.cdf_unit_list.proofs.Proved.{proved}
-use Rattle.cdf_reader_spec.specs.Place.{ReaderPlace}
+use Rattle.cdf_reader_spec.specs.Place.{ReaderPlace, fits}
 use Rattle.cdf_reader_spec.specs.Calls.{Reply, stepped, firstOf, nextOf}
 use Rattle.cdf_reader_runs.specs.Runs.{afterwards}
 use Rattle.cdf_reader_runs.proofs.Looping.{Stops, at-end, at-fault}
@@ -61,11 +62,12 @@ module _ {A : Type 0} (fold : A → Ranked → A) (l : Layout) (s : List ℕ) (n
   unfolding rankedUnits
   folded a h g = rw (g .going .all, g .has) (gather-on (g .before) (g .going .units))
 
-  -- A unit was handed out: it lies in the bytes, and it is folded in.
+  -- A unit was handed out: it lies in the bytes, the place behind it fits, and it is folded in.
   pub record Turn (a : Reply) (h : A) : Type 0 where
     pub own : a .handed .unit .start + prefixOf l ≤ a .handed .unit .own
     pub end : a .handed .unit .own ≤ a .handed .unit .end
     pub within : a .handed .unit .end ≤ length s
+    pub fit : fits l (length s) (a .place) ≡ true
     pub next : Going (nextOf l s (a .place)) (fold h (a .handed))
 
   pub turned : (a : Reply) (h : A) → Going a h → a .number ≡ 0 → Turn a h
@@ -75,6 +77,7 @@ module _ {A : Type 0} (fold : A → Ranked → A) (l : Layout) (s : List ℕ) (n
         own = t .own;
         end = t .end;
         within = t .within;
+        fit = t .fit;
         next = record {
           before = a .handed .unit ∷ g .before;
           going = t .next;

@@ -22,10 +22,9 @@ use Rattle.cdf_reader_spec.specs.Ranking.{innermostAt, nextRank, handedAt}
 use Rattle.cdf_reader_spec.specs.Calls.{Reply, emptyPlace, placeAt, stepped, firstOf, nextOf}
 use Rattle.cdf_reader_spec.proofs.Fitting.{fitting}
 use Rattle.cdf_reader_spec.proofs.Opened.{at-most-four}
-use Rattle.cdf_reader_spec.proofs.Replying.{start, first-is}
+use Rattle.cdf_reader_spec.proofs.Replying.{start, first-is, next-is}
 use Rattle.cdf_reader_runs.proofs.Ranking.{close-counted}
 use Rattle.cdf_reader_runs.proofs.Keeps.{Keeps, first-keeps, next-keeps}
-use Rattle.cdf_reader_runs.proofs.Replies.{next-is}
 use Rattle.cdf_reader_runs.proofs.Steps.{Run, ends, breaks, hands, listed}
 
 -- After a step that finds a unit, the stack follows the list with that unit.
@@ -128,8 +127,8 @@ module _ (l : Layout) (s : List ℕ) where
     all = refl;
   }
 
-  -- A unit was handed out, with the depth and rank that the list gives: it lies in the bytes, at most four are open behind it, and the next
-  -- answer is that of the step behind it.
+  -- A unit was handed out, with the depth and rank that the list gives: it lies in the bytes, at most four are open behind it, where the
+  -- place fits, and the next answer is that of the step behind it.
   pub record Turn (before : List Unit) (a : Reply) : Type 0 where
     pub own : a .handed .unit .start + prefixOf l ≤ a .handed .unit .own
     pub end : a .handed .unit .own ≤ a .handed .unit .end
@@ -137,6 +136,7 @@ module _ (l : Layout) (s : List ℕ) where
     pub ranked : a .handed ≡ standing before (a .handed .unit)
     pub few : length (a .place .units) ≤ 4
     pub fresh : a .place .fresh ≡ opens (a .handed .unit .id)
+    pub fit : fits l (length s) (a .place) ≡ true
     pub place : ReaderPlace
     pub stands : Stands before place (found (a .handed .unit) (a .place .units) (a .place .position))
     pub next : Going (a .handed .unit ∷ before) (nextOf l s (a .place))
@@ -157,6 +157,7 @@ module _ (l : Layout) (s : List ℕ) where
         ranked = on .0 .handed;
         few = at-most-four os (fit .kinds);
         fresh = refl;
+        fit = k;
         place = p;
         stands = h;
         next = record {

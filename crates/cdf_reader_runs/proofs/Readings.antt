@@ -14,8 +14,7 @@ use Rattle.cdf_reader_spec.specs.Place.{ReaderPlace}
 use Rattle.cdf_reader_spec.specs.Calls.{Reply, emptyPlace, placeAt, stepped, firstOf, nextOf}
 use Rattle.cdf_reader_runs.specs.Runs.{reading, outcome, afterwards, due}
 use Rattle.cdf_reader_runs.proofs.Keeps.{Keeps, first-keeps, next-keeps}
-use Rattle.cdf_reader_spec.proofs.Replying.{first-is}
-use Rattle.cdf_reader_runs.proofs.Replies.{next-is}
+use Rattle.cdf_reader_spec.proofs.Replying.{first-is, next-is}
 use Rattle.cdf_reader_runs.proofs.Steps.{Run, ends, breaks, hands, listed}
 use Rattle.cdf_reader_runs.proofs.Looping.{Stands, stands-next}
 

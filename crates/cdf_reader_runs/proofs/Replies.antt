@@ -4,24 +4,17 @@ use mathlib.Core.Path.{_≡_}
 use mathlib.Core.Bool.{true, not}
 use mathlib.Core.List.{List}
 use native.Mathlib.Omega.{arith}
-use borrow.Author.Tests.{ne-eqb, not-false}
+use borrow.Author.Tests.{not-false}
 use lib.ListN.{length}
 use Rattle.cdf_unit_table.proofs.Bools.{of-cond}
 use Rattle.cdf_unit_prefix.specs.Layout.{Layout}
 use Rattle.cdf_unit_list.specs.Stack.{Step, done, refused, found, step}
 use Rattle.cdf_reader_spec.specs.Place.{ReaderPlace, isEmpty, fits}
 use Rattle.cdf_reader_spec.specs.Calls.{Reply, emptyPlace, refuse, stepped, firstOf, nextOf}
-use Rattle.cdf_reader_spec.proofs.Fitting.{fitting}
 use Rattle.cdf_reader_spec.proofs.Replying.{start, first-is, next-tests}
 use Rattle.cdf_reader_runs.proofs.Keeps.{Keeps, first-keeps, next-keeps}
 
 module _ (l : Layout) (s : List ℕ) where
-  -- From a place that fits, which is not empty, it is the step.
-  pub next-is : (p : ReaderPlace) → fits l (length s) p ≡ true → nextOf l s p ≡ stepped p (step l s (p .units) (p .position))
-  unfolding isEmpty
-  next-is p e =
-      rw (next-tests, ne-eqb (length (p .units)) 0 (λ z. omega (arith, fitting l (length s) p e .some)), e)
-
   -- The empty place has no next.
   pub next-empty : nextOf l s emptyPlace ≡ refuse 11 0 emptyPlace
   unfolding isEmpty

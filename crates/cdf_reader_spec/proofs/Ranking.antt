@@ -31,6 +31,11 @@ module _ (l : Layout) (pos : ℕ) where
       (λ e. after-next os ks (suc k) (w .1) (one-more k (leb-true (k * prefixOf l) pos (w .0))))
       (λ e. h)
 
+-- So with one above the rank before.
+pub on-stands : (l : Layout) (pos : ℕ) (os : List Open) (ks : List ℕ) (rank : ℕ) → Low l pos ks → rank * prefixOf l ≤ pos →
+    rankAfter os ks pos (suc rank) * prefixOf l ≤ pos + prefixOf l
+on-stands l pos os ks rank low h = after-next l pos os ks (suc rank) low (one-more l pos rank h)
+
 pub next-stands : (l : Layout) (n : ℕ) (p : ReaderPlace) → Fitting l n p → nextRank p * prefixOf l ≤ p .position + prefixOf l
 unfolding nextRank
 next-stands l n p f =

@@ -3,6 +3,8 @@ use Prim.Native.Nat.{ℕ, _-_}
 use mathlib.Core.Path.{_≡_, refl}
 use mathlib.Core.Bool.{Bool, true, not, cond, _&&_}
 use mathlib.Core.List.{List, []}
+use native.Mathlib.Omega.{arith}
+use borrow.Author.Tests.{ne-eqb}
 use lib.Dec.{eqb}
 use lib.ListN.{length}
 use Rattle.cdf_unit_prefix.specs.Layout.{Layout}
@@ -14,6 +16,7 @@ use Rattle.cdf_reader_spec.specs.Place.{ReaderPlace, isEmpty, fits}
 use Rattle.cdf_reader_spec.specs.Calls.{emptyPlace, refuse, moveTo, give, placeAt, stepped, firstOf, nextOf, previousOf}
 use Rattle.cdf_reader_spec.specs.Calls.{untouched, passed, passing, skipOf, isGroup, takeOf, partOf, callOf}
 use Rattle.cdf_reader_spec.specs.declared.Call.the-variants.{Start, Next, Skip, GetStream, Previous}
+use Rattle.cdf_reader_spec.proofs.Fitting.{fitting}
 
 -- The step that a start takes.
 abbrev pub start : Layout → List ℕ → Step
@@ -37,6 +40,12 @@ module _ (l : Layout) (s : List ℕ) where
       (cond (not (fits l (length s) p)) (refuse 2 0 p) (stepped p (step l s (p .units) (p .position))))
   unfolding nextOf
   next-tests p = refl
+
+  -- From a place that fits, which is not empty, it is the step.
+  pub next-is : (p : ReaderPlace) → fits l (length s) p ≡ true → nextOf l s p ≡ stepped p (step l s (p .units) (p .position))
+  unfolding isEmpty
+  next-is p e =
+      rw (next-tests p, ne-eqb (length (p .units)) 0 (λ z. omega (arith, fitting l (length s) p e .some)), e)
 
   pub previous-tests : (p : ReaderPlace) →
       previousOf l s p

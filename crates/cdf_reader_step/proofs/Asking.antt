@@ -16,13 +16,15 @@ use Rattle.cdf_reader_spec.specs.declared.Call.{Call}
 use Rattle.cdf_reader_spec.specs.declared.Call.the-variants.{Start, Next, Skip, GetStream, Previous}
 use Rattle.cdf_reader_spec.proofs.Counted.{length-open}
 use Rattle.cdf_reader_spec.proofs.Fitting.{fitting}
-use Rattle.cdf_reader_spec.proofs.Replying.{next-tests, previous-tests, passing-tests, skip-is, take-is}
+use Rattle.cdf_reader_spec.proofs.Replying.{next-tests, next-is, previous-tests, passing-tests, skip-is, take-is}
 use Rattle.cdf_reader_spec.proofs.Replying.{start-named, next-named, skip-named, take-named, previous-named}
 use Rattle.cdf_reader_use.specs.Uses.{mayPass, hasUse}
 use Rattle.cdf_reader_cursor.specs.Outcomes.{cursorPlace, outcomeReply, noCursor, refusal}
 use Rattle.cdf_reader_cursor.specs.declared.Cursor.{Cursor}
 use Rattle.cdf_reader_cursor.specs.declared.Outcome.{Outcome}
 use Rattle.cdf_reader_cursor.proofs.Again.{given-is}
+use Rattle.cdf_reader_advance.specs.Advancing.{advanced}
+use Rattle.cdf_reader_advance.proofs.Steady.{advances}
 use Rattle.cdf_reader_step.specs.Kept.{cursorKept}
 
 -- A start always has a use.
@@ -139,9 +141,11 @@ module _ (p : Cursor) where
         pub starts : c ≡ Start → (r : Outcome) → outcomeReply r ≡ firstOf l s → ((r .number ≡ 0 → ⊥) → r .cursor ≡ noCursor) → Answers c r
         starts e r is kept = (is ∙ sym (done ∙ rw e), (rw e kept, other (rw e)))
 
-        pub steps : c ≡ Next → (r : Outcome) → outcomeReply r ≡ stepped v (step l s (v .units) (p .position)) →
-            ((r .number ≡ 0 → ⊥) → r .cursor ≡ p) → Answers c r
-        steps e r is kept = (is ∙ sym (done ∙ rw e), (rw e kept, other (rw e)))
+        -- NEXT is a step at any place, which at one that fits is NEXT.
+        pub steps : c ≡ Next → (r : Outcome) → outcomeReply r ≡ advanced l s v → ((r .number ≡ 0 → ⊥) → r .cursor ≡ p) → Answers c r
+        steps e r is kept =
+            let fit = fit-needed f (rw e) in
+            (is ∙ advances l s v fit ∙ next-is l s v fit ∙ sym (done ∙ rw e), (rw e kept, other (rw e)))
 
         passes : does c ≡ moveTo (passed v) → isPrevious c ≡ false → (r : Outcome) → outcomeReply r ≡ moveTo (passed v) → Answers c r
         passes e no-previous r is =

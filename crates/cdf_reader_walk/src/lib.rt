@@ -35,7 +35,7 @@ pub extern "C" fn cdf_walk(s: &[u8]) -> u64
         let handed = a.handed;
         h = mix(h, handed);
         let p = a.place;
-        a = p.next(s);
+        a = p.advance(s);
     }
     mix_end(h, a.number, a.offset)
 }

@@ -7,8 +7,10 @@ use lib.ListN.{length}
 use Rattle.cdf_unit_prefix.specs.Layout.{layoutOf}
 use Rattle.cdf_unit_prefix.specs.declared.Edition.the-variants.{First}
 use Rattle.cdf_unit_list.specs.declared.Unit.{Unit}
+use Rattle.cdf_reader_spec.specs.Calls.{nextOf}
 use Rattle.cdf_reader.specs.View.{view, replyOf}
-use Rattle.cdf_reader_runs.proofs.Looping.{Going, begun, turned, over}
+use Rattle.cdf_reader.proofs.Proved.{proved}
+use Rattle.cdf_reader_runs.proofs.Looping.{Going, begun, Turn, turned, over}
 use Rattle.cdf_reader_runs.proofs.Further.{first-later, next-later, ahead, less}
 use Rattle.cdf_explain.specs.Numbers.{explainedBy}
 use Rattle.cdf_explain.specs.Parts.{toldAt}
@@ -41,8 +43,21 @@ loop-holds c =
       λ z. (rw (← c .first .ensures .0) at (first-later (layoutOf First) s)) z .1,
     )
 
-next-requires : tie.Need-next-requires Inv-loop μ-loop
-next-requires c κs = search needs
+advance-requires : tie.Need-advance-requires Inv-loop μ-loop
+advance-requires c κs = search needs
+
+-- A unit was handed out; so the place fits, and the step is NEXT.
+here : (turn : tie.At-loop Inv-loop μ-loop) → turn .loop .a .number ≡ 0 →
+    Turn (layoutOf First) (turn .before .before .before .args .s .now) (turn .loop .inv .0 .0) (replyOf (turn .loop .a))
+here turn z =
+    turned (layoutOf First) (turn .before .before .before .args .s .now) (turn .loop .inv .0 .0) (replyOf (turn .loop .a)) (turn .loop .inv .0 .1) z
+
+next : (c : tie.After-advance Inv-loop μ-loop) →
+    let turn = c .before .before .before .before in
+    replyOf (c .advance .result) ≡ nextOf (layoutOf First) (turn .before .before .before .args .s .now) (view (turn .loop .a .place))
+next c =
+    let more = c .before .before in
+    c .advance .ensures .0 ∙ proved .advances _ _ _ (here (more .before .before) (more .if1 .taken) .fit)
 
 loop-less : tie.Need-loop-less Inv-loop μ-loop
 loop-less c =
@@ -50,8 +65,8 @@ loop-less c =
     let turn = more .before .before in
     let s = turn .before .before .before .args .s .now in
     let p = turn .loop .a .place in
-    less (layoutOf First) s _ _ (replyOf (c .next .result)) (more .if1 .taken) (turn .loop .inv .1 (more .if1 .taken))
-    (rw (← c .next .ensures .0) at (next-later (layoutOf First) s (view p)))
+    less (layoutOf First) s _ _ (replyOf (c .advance .result)) (more .if1 .taken) (turn .loop .inv .1 (more .if1 .taken))
+    (rw (← next c) at (next-later (layoutOf First) s (view p)))
 
 loop-again : tie.Need-loop-again Inv-loop μ-loop
 loop-again c =
@@ -60,8 +75,8 @@ loop-again c =
     let s = turn .before .before .before .args .s .now in
     let a = turn .loop .a in
     let before = turn .loop .inv .0 .0 in (
-      (a .handed .unit ∷ before, rw (c .next .ensures .0) (turned (layoutOf First) s before (replyOf a) (turn .loop .inv .0 .1) (more .if1 .taken) .next)),
-      λ z. (rw (← c .next .ensures .0) at (next-later (layoutOf First) s (view (a .place)))) z .1,
+      (a .handed .unit ∷ before, rw (next c) (here turn (more .if1 .taken) .next)),
+      λ z. (rw (← next c) at (next-later (layoutOf First) s (view (a .place)))) z .1,
     )
 
 returns : tie.Need-returns Inv-loop μ-loop
@@ -100,7 +115,7 @@ explain-spec =
     μ-loop
     first-requires
     loop-holds
-    next-requires
+    advance-requires
     loop-less
     loop-again
     returns

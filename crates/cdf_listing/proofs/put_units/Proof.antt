@@ -35,20 +35,20 @@ cast-put-line c =
 put-line-requires : tie.Need-put-line-requires Inv-loop μ-loop
 put-line-requires c κs = search needs
 
-next-requires : tie.Need-next-requires Inv-loop μ-loop
-next-requires c κs = search needs
+advance-requires : tie.Need-advance-requires Inv-loop μ-loop
+advance-requires c κs = search needs
 
 loop-less : tie.Need-loop-less Inv-loop μ-loop
 loop-less c =
     let more = c .before .before .before .before .before .before .before .before in
-    lined-less _ (more .before .before .loop .inv) (more .if1 .taken) (c .next .result) (c .next .ensures .0)
+    lined-less _ (more .before .before .loop .inv) (more .if1 .taken) (c .advance .result) (c .advance .ensures .0)
 
 loop-again : tie.Need-loop-again Inv-loop μ-loop
 unfolding lineOf
 loop-again c =
     let line = c .before .before .before in
     let more = line .before .before .before .before .before in
-    lined-next _ (more .before .before .loop .inv) (more .if1 .taken) (c .next .result) (c .next .ensures .0)
+    lined-next _ (more .before .before .loop .inv) (more .if1 .taken) (c .advance .result) (c .advance .ensures .0)
     (line .put-line .ensures)
 
 returns : tie.Need-returns Inv-loop μ-loop
@@ -68,7 +68,7 @@ put-units-spec =
     sub-size
     cast-put-line
     put-line-requires
-    next-requires
+    advance-requires
     loop-less
     loop-again
     same-length

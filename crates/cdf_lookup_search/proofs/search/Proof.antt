@@ -8,6 +8,7 @@ use Rattle.cdf_unit_prefix.specs.Layout.{Layout, layoutOf}
 use Rattle.cdf_unit_prefix.specs.declared.Edition.the-variants.{First}
 use Rattle.cdf_reader_spec.specs.Calls.{nextOf}
 use Rattle.cdf_reader.specs.View.{view, replyOf}
+use Rattle.cdf_reader.proofs.Proved.{proved}
 use Rattle.cdf_reader_runs.proofs.Further.{first-later, next-later, ahead, less}
 use Rattle.cdf_reader_runs.proofs.Folding.{Going, begun, Turn, turned}
 use Rattle.cdf_lookup_spec.specs.Find.{Query, query}
@@ -91,22 +92,30 @@ returns c =
     let is = c .outcome .ensures in
     (is ∙ over-early l (bytes (head step)) (asked (head step)) _ _ (on step) over, rw is (placed step))
 
-next-requires : tie.Need-next-requires Inv-loop μ-loop
-next-requires c κs = search needs
+advance-requires-2 : tie.Need-advance-requires-2 Inv-loop μ-loop
+advance-requires-2 c κs = search needs
+
+-- The place fits, so a step from it is NEXT.
+next : (c : tie.After-advance2 Inv-loop μ-loop) →
+    let turn = head (c .before .before .before .before) in
+    replyOf (c .advance2 .result) ≡ nextOf l (bytes turn) (view (turn .loop .a .place))
+next c =
+    let step = c .before .before .before .before in
+    c .advance2 .ensures .0 ∙ proved .advances _ _ _ (in-hand (head step) (taken step) .fit)
 
 loop-less : tie.Need-loop-less Inv-loop μ-loop
 loop-less c =
     let step = c .before .before .before .before in
     let turn = head step in
-    less l (bytes turn) _ _ (replyOf (c .next .result)) (taken step) (turn .loop .inv .1 (taken step))
-    (rw (← c .next .ensures .0) at (next-later l (bytes turn) (view (turn .loop .a .place))))
+    less l (bytes turn) _ _ (replyOf (c .advance2 .result)) (taken step) (turn .loop .inv .1 (taken step))
+    (rw (← next c) at (next-later l (bytes turn) (view (turn .loop .a .place))))
 
 loop-again : tie.Need-loop-again Inv-loop μ-loop
 loop-again c =
     let step = c .before .before .before .before in
     let turn = head step in (
-      rw (c .next .ensures .0) (on step),
-      (λ z. (rw (← c .next .ensures .0) at (next-later l (bytes turn) (view (turn .loop .a .place)))) z .1),
+      rw (next c) (on step),
+      (λ z. (rw (← next c) at (next-later l (bytes turn) (view (turn .loop .a .place)))) z .1),
       placed step,
     )
 
@@ -133,7 +142,7 @@ search-spec =
     is-over-requires
     outcome-requires
     returns
-    next-requires
+    advance-requires-2
     loop-less
     loop-again
     outcome-requires-2

@@ -53,11 +53,8 @@ first-as-requires c κs = search needs
 enum-told-2 : tie.Need-enum-told-2
 enum-told-2 c = search needs
 
-step-requires : tie.Need-step-requires
-step-requires c κs =
-    let go = c .before .before in
-    let a = go .before .before .before .before .before .args in
-    fit-needed (a .c) _ (a .s .now) (a .call) (fit go) (ap isStart (c .enum-told2 .given .1))
+advance-requires : tie.Need-advance-requires
+advance-requires c κs = search needs
 
 enum-told-3 : tie.Need-enum-told-3
 enum-told-3 c = search needs
@@ -90,8 +87,8 @@ returns-3 c =
 returns-4 : tie.Need-returns-4
 returns-4 c =
     let go = c .before .before .before in
-    steps _ _ _ _ (may (go .before .before)) (fit go) (c .before .enum-told2 .given .1) (c .step .result) (c .step .ensures .0)
-    (c .step .ensures .1)
+    steps _ _ _ _ (may (go .before .before)) (fit go) (c .before .enum-told2 .given .1) (c .advance .result) (c .advance .ensures .0)
+    (c .advance .ensures .1)
 
 returns-5 : tie.Need-returns-5
 returns-5 c =
@@ -121,7 +118,7 @@ call-at-spec =
     enum-told
     first-as-requires
     enum-told-2
-    step-requires
+    advance-requires
     enum-told-3
     pass-requires
     enum-told-4

@@ -39,14 +39,15 @@ fit : (c : tie.Else2) →
     fits (layoutOf (a .edition)) (length (a .s .now)) (cursorPlace (a .c)) ≡ true
 fit c = sym (c .before .is-fit .ensures) ∙ not-false (c .before .is-fit .result) (c .if2 .left)
 
-step-requires : tie.Need-step-requires
-step-requires c κs = fit c
+advance-requires : tie.Need-advance-requires
+advance-requires c κs = search needs
 
 returns-3 : tie.Need-returns-3
 returns-3 c =
     let some = c .before .before .before in
     let p = some .before .before .before .args .c in
-    by-next p _ _ _ (steps p _ _ Next (next-some p (some .if1 .left)) (fit (c .before)) refl (c .step .result) (c .step .ensures .0) (c .step .ensures .1))
+    let told = c .advance .ensures in
+    by-next p _ _ _ (steps p _ _ Next (next-some p (some .if1 .left)) (fit (c .before)) refl (c .advance .result) (told .0) (told .1))
 
 pub next-at-spec : {M : Type 1} → statement M
 next-at-spec =
@@ -57,5 +58,5 @@ next-at-spec =
     is-fit-requires
     refused-requires-2
     returns-2
-    step-requires
+    advance-requires
     returns-3)

@@ -5,9 +5,11 @@ use borrow.Author.Needs.{needs}
 use lib.ListN.{length}
 use Rattle.cdf_unit_prefix.specs.Layout.{layoutOf}
 use Rattle.cdf_unit_prefix.specs.declared.Edition.the-variants.{First}
+use Rattle.cdf_reader_spec.specs.Calls.{nextOf}
 use Rattle.cdf_reader.specs.View.{view, replyOf}
+use Rattle.cdf_reader.proofs.Proved.{proved}
 use Rattle.cdf_reader_runs.proofs.Further.{first-later, next-later, ahead, less}
-use Rattle.cdf_reader_runs.proofs.Folding.{Going, begun, turned}
+use Rattle.cdf_reader_runs.proofs.Folding.{Going, begun, Turn, turned}
 use Rattle.cdf_reader_walk.specs.Fold.{mixOf}
 use Rattle.cdf_reader_walk.proofs.Walking.{ended-walk}
 use Rattle.cdf_reader_walk.proofs.cdf_walk.Statement.{statement}
@@ -32,8 +34,21 @@ loop-holds c =
 mix-requires : tie.Need-mix-requires Inv-loop μ-loop
 mix-requires c κs = search needs
 
-next-requires : tie.Need-next-requires Inv-loop μ-loop
-next-requires c κs = search needs
+advance-requires : tie.Need-advance-requires Inv-loop μ-loop
+advance-requires c κs = search needs
+
+-- A unit was handed out; so the place fits, and the step is NEXT.
+here : (turn : tie.At-loop Inv-loop μ-loop) → turn .loop .a .number ≡ 0 →
+    Turn mixOf (layoutOf First) (turn .before .before .before .args .s .now) 0 (replyOf (turn .loop .a)) (turn .loop .h)
+here turn z =
+    turned mixOf (layoutOf First) (turn .before .before .before .args .s .now) 0 (replyOf (turn .loop .a)) (turn .loop .h) (turn .loop .inv .0) z
+
+next : (c : tie.After-advance Inv-loop μ-loop) →
+    let turn = c .before .before .before .before .before .before in
+    replyOf (c .advance .result) ≡ nextOf (layoutOf First) (turn .before .before .before .args .s .now) (view (turn .loop .a .place))
+next c =
+    let more = c .before .before .before .before in
+    c .advance .ensures .0 ∙ proved .advances _ _ _ (here (more .before .before) (more .if1 .taken) .fit)
 
 loop-less : tie.Need-loop-less Inv-loop μ-loop
 loop-less c =
@@ -41,8 +56,8 @@ loop-less c =
     let turn = more .before .before in
     let s = turn .before .before .before .args .s .now in
     let p = turn .loop .a .place in
-    less (layoutOf First) s _ _ (replyOf (c .next .result)) (more .if1 .taken) (turn .loop .inv .1 (more .if1 .taken))
-    (rw (← c .next .ensures .0) at (next-later (layoutOf First) s (view p)))
+    less (layoutOf First) s _ _ (replyOf (c .advance .result)) (more .if1 .taken) (turn .loop .inv .1 (more .if1 .taken))
+    (rw (← next c) at (next-later (layoutOf First) s (view p)))
 
 loop-again : tie.Need-loop-again Inv-loop μ-loop
 loop-again c =
@@ -51,9 +66,8 @@ loop-again c =
     let s = turn .before .before .before .args .s .now in
     let a = turn .loop .a in
     let p = a .place in (
-      rw (c .next .ensures .0, c .before .before .mix .ensures)
-          (turned mixOf (layoutOf First) s 0 (replyOf a) (turn .loop .h) (turn .loop .inv .0) (more .if1 .taken) .next),
-      λ z. (rw (← c .next .ensures .0) at (next-later (layoutOf First) s (view p))) z .1,
+      rw (next c, c .before .before .mix .ensures) (here turn (more .if1 .taken) .next),
+      λ z. (rw (← next c) at (next-later (layoutOf First) s (view p))) z .1,
     )
 
 mix-end-requires : tie.Need-mix-end-requires Inv-loop μ-loop
@@ -75,7 +89,7 @@ cdf-walk-spec =
     first-requires
     loop-holds
     mix-requires
-    next-requires
+    advance-requires
     loop-less
     loop-again
     mix-end-requires
