@@ -1,38 +1,11 @@
--- The loops that write to the front of a tail.
+-- The loop that writes a number to the front of a tail.
 use mathlib.Core.Path.{_≡_, ap}
 use mathlib.Core.List.{List, [], _∷_, _++_}
 use Prim.Native.Nat.{ℕ, suc, _+_, _-_, _/_, _%_, _≤_, _<_}
-use native.Mathlib.Numerals.{add-one}
 use native.Mathlib.Omega.{arith}
-use lib.ListN.{length, take, drop, getD, set, length-set}
-use lib.Seq.{take-length, take-suc, length-take-le, drop-cons, append-snoc, set-at, drop-set-lt, getD-set-same}
+use lib.ListN.{length, drop, set, length-set}
+use lib.Seq.{drop-cons, append-snoc, drop-set-lt, getD-set-same}
 use Rattle.cdf_grammar.specs.Encoding.{bytesOf}
-
--- The first i bytes are copied.
-pub record Copied (tail₀ bytes tail : List ℕ) (i : ℕ) : Type 0 where
-  pub within : i ≤ length bytes
-  pub is : tail ≡ take i bytes ++ drop i tail₀
-  pub long : length tail ≡ length tail₀
-
-pub copied-more : {tail₀ bytes tail : List ℕ} {i : ℕ} → Copied tail₀ bytes tail i → i < length bytes → i < length tail₀ →
-    Copied tail₀ bytes (set tail i (getD bytes i 0)) (i + 1)
-copied-more {tail₀} {bytes} {tail} {i} f h k =
-    let front = take i bytes in
-    let x = getD bytes i 0 in
-    let short : length front ≡ i = length-take-le i bytes (f .within) in
-    let old : tail ≡ front ++ (getD tail₀ i 0 ∷ drop (suc i) tail₀) = rw (← drop-cons tail₀ i 0 k) (f .is) in
-    let new : set tail i x ≡ front ++ (x ∷ drop (suc i) tail₀) = rw old (set-at front (getD tail₀ i 0) (drop (suc i) tail₀) x i short) in
-    record {
-      within = omega arith;
-      is = rw (add-one, take-suc bytes i 0, append-snoc) new;
-      long = rw length-set (f .long);
-    }
-
-pub copied-all : {tail₀ bytes tail : List ℕ} {i : ℕ} → Copied tail₀ bytes tail i → length bytes ≤ i →
-    tail ≡ bytes ++ drop (length bytes) tail₀
-copied-all {tail₀} {bytes} {tail} {i} f h =
-    let e : i ≡ length bytes = omega arith in
-    rw (e, take-length) at (f .is)
 
 -- What is left of the number goes into the first i bytes.
 pub record Numbered (width : ℕ) (tail₀ : List ℕ) (number : ℕ) (tail : List ℕ) (i n : ℕ) : Type 0 where

@@ -6,28 +6,22 @@ use Prim.Native.Nat.{ℕ, suc, _+_, _-_, _≤_}
 use native.Mathlib.Omega.{arith}
 use borrow.Author.Tests.{leb-true, leb-false}
 use lib.Dec.{leb}
-use lib.ListN.{length, take, drop, getD, set, length-append, length-drop, drop-of-length-le}
+use lib.ListN.{length, take, drop, getD, set, length-append}
 use lib.Seq.{take-at, drop-at, drop-cons, drop-drop, append-snoc, set-at}
 use borrow.Rule.Slice.PartMut.{putMid}
 use Rattle.cdf_unit_prefix.specs.Layout.{Layout, prefixOf}
-use Rattle.cdf_unit_table.proofs.Parts.{rest}
 use Rattle.cdf_grammar.specs.Encoding.{bytesOf, prefixBytes, unitBytes}
 use Rattle.cdf_grammar.proofs.Numbers.{length-bytes}
 use Rattle.cdf_grammar.proofs.Prefixes.{length-prefix}
 use Rattle.cdf_grammar.proofs.Built.{unit-is, length-unit}
+use Rattle.cdf_builder_copy.proofs.Lent.{lent}
 use Rattle.cdf_builder_write.specs.Patch.{patch}
 use Rattle.cdf_builder_write.proofs.Patching.{patch-some, patch-none}
 
 module _ (at n : ℕ) (new s tail : List ℕ) (size : length new ≡ n)
     (is : tail ≡ new ++ drop n (take (length s - at) (drop at s))) where
-  pub lent : putMid at (length s - at) s tail ≡ take at s ++ (new ++ drop (at + n) s)
-  lent =
-      let few : length (drop at s) ≤ length s - at = simp length-drop (omega arith) in
-      let none : drop (length s - at) (drop at s) ≡ [] = drop-of-length-le (drop at s) few in
-      rw (none, append-nil, is, rest, drop-drop)
-
   patched : at + n ≤ length s → putMid at (length s - at) s tail ≡ patch at new s
-  patched room = lent ∙ sym (rw size at (patch-some at new s (rw size room)))
+  patched room = lent at n new s tail is ∙ sym (rw size at (patch-some at new s (rw size room)))
 
 -- Whether there is room is asked first: where there is, bytes are put to the front of the lent tail, and else all stays.
 module _ (at n : ℕ) (new s : List ℕ) (size : length new ≡ n) (may : Bool) (asked : may ≡ leb (at + n) (length s)) where

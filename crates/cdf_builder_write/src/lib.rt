@@ -7,6 +7,7 @@ ghost use lib.ListN.{length, drop};
 ghost use Rattle.cdf_unit_prefix.specs.Layout.{layoutOf, prefixOf};
 ghost use Rattle.cdf_grammar.specs.Encoding.{bytesOf, prefixBytes, unitBytes};
 ghost use Rattle.cdf_builder_write.specs.Patch.{patch};
+use cdf_builder_copy::copy;
 use cdf_unit_prefix::Edition;
 use cdf_unit_prefix::prefix;
 use cdf_unit_prefix::second_mark;
@@ -21,19 +22,8 @@ fn has_room(n: usize, at: usize, count: usize) -> bool
     at <= n - count
 }
 
-// The functions named put_.. are lent only the tail that begins at the writing place. This one copies bytes to its front.
-fn put_bytes(tail: &mut [u8], bytes: &[u8])
-    requires { ⌜ length (now bytes) ≤ length (now tail) ⌝ }
-    ensures { λ r. ⌜ now (tail .exit) ≡ now (bytes .entry) ++ drop (length (now (bytes .entry))) (now (tail .entry)) ⌝ }
-{
-    let mut i = 0;
-    while i < bytes.len() {
-        tail[i] = bytes[i];
-        i += 1;
-    }
-}
-
-// A number in `width` bytes, from the last byte to the first.
+// The functions named put_.. are lent only the tail that begins at the writing place. This one writes a number in `width` bytes, from
+// the last byte to the first.
 fn put_number(width: usize, tail: &mut [u8], number: usize)
     requires { ⌜ width ≤ length (now tail) ⌝ }
     ensures { λ r. ⌜ now (tail .exit) ≡ bytesOf width number ++ drop width (now (tail .entry)) ⌝ }
@@ -76,7 +66,7 @@ fn put_unit(edition: Edition, tail: &mut [u8], id: u8, action: u8, data: &[u8])
 {
     let p = prefix(edition);
     put_prefix(edition, tail, p + data.len(), action, id);
-    put_bytes(&mut tail[p..], data);
+    copy(&mut tail[p..], data);
 }
 
 // Writes a unit with nothing nested in it.
@@ -105,6 +95,6 @@ pub fn write_bytes(buffer: &mut [u8], at: usize, bytes: &[u8])
     ensures { λ r. ⌜ now (buffer .exit) ≡ patch at (now (bytes .entry)) (now (buffer .entry)) ⌝ }
 {
     if has_room(buffer.len(), at, bytes.len()) {
-        put_bytes(&mut buffer[at..], bytes);
+        copy(&mut buffer[at..], bytes);
     }
 }

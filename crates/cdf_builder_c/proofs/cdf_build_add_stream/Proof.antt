@@ -1,6 +1,6 @@
 -- The builder's ADD_STREAM at the place that the numbers are.
 use borrow.Author.Needs.{needs}
-use Rattle.cdf_builder_c.proofs.Told.{called}
+use Rattle.cdf_builder_numbers.proofs.Told.{called}
 use Rattle.cdf_builder_c.proofs.cdf_build_add_stream.Statement.{statement}
 use Rattle.cdf_builder_c.proofs.cdf_build_add_stream.Tie as tie
 

@@ -1,8 +1,8 @@
 -- The builder's start, its place written as numbers.
 use mathlib.Core.Path.{ap, _∙_}
 use borrow.Author.Needs.{needs}
-use Rattle.cdf_builder_c.specs.Numbers.{numbersOf}
-use Rattle.cdf_builder_c.proofs.Told.{written}
+use Rattle.cdf_builder_numbers.specs.Numbers.{numbersOf}
+use Rattle.cdf_builder_numbers.proofs.Told.{written}
 use Rattle.cdf_builder_c.proofs.cdf_build_first.Statement.{statement}
 use Rattle.cdf_builder_c.proofs.cdf_build_first.Tie as tie
 

@@ -9,8 +9,8 @@ use lib.ListN.{length, set, length-set, length-drop}
 use Rattle.cdf_unit_prefix.specs.Layout.{layoutOf}
 use Rattle.cdf_unit_table.proofs.Parts.{rest}
 use Rattle.cdf_grammar.specs.Encoding.{bytesOf}
-use Rattle.cdf_grammar.proofs.Numbers.{length-bytes}
-use Rattle.cdf_builder_write.proofs.Lent.{lent, prefix-stored}
+use Rattle.cdf_builder_copy.proofs.Lent.{lent}
+use Rattle.cdf_builder_write.proofs.Lent.{prefix-stored}
 use Rattle.cdf_builder_write.proofs.put_prefix.Statement.{statement}
 use Rattle.cdf_builder_write.proofs.put_prefix.Tie as tie
 
@@ -88,7 +88,7 @@ returns c =
     let a = width .before .before .args in
     let k = width .length-bytes .result in
     rw (
-      lent 2 k (bytesOf k (a .len)) (marked mark) (put .put-number .last .1 .0) (length-bytes k (a .len)) (put .put-number .ensures),
+      lent 2 k (bytesOf k (a .len)) (marked mark) (put .put-number .last .1 .0) (put .put-number .ensures),
       width .length-bytes .ensures .0,
       mark .second-mark .ensures,
     )

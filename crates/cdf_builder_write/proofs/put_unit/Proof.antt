@@ -1,9 +1,12 @@
 -- The prefix, and then the data in the tail behind it.
-use mathlib.Core.Path.{refl, _∙_}
+use Prim.Native.Nat.{_-_}
+use mathlib.Core.Path.{_∙_}
 use borrow.Author.Needs.{needs}
-use lib.ListN.{length}
+use lib.ListN.{length, take, drop}
 use Rattle.cdf_unit_prefix.specs.Layout.{layoutOf}
-use Rattle.cdf_builder_write.proofs.Lent.{lent, unit-stored}
+use Rattle.cdf_builder_copy.proofs.Lent.{lent}
+use Rattle.cdf_builder_copy.proofs.Onto.{onto-some}
+use Rattle.cdf_builder_write.proofs.Lent.{unit-stored}
 use Rattle.cdf_builder_write.proofs.put_unit.Statement.{statement}
 use Rattle.cdf_builder_write.proofs.put_unit.Tie as tie
 
@@ -16,17 +19,17 @@ add-put-prefix c = search needs
 put-prefix-requires : tie.Need-put-prefix-requires
 put-prefix-requires c κs = search needs
 
-sub-put-bytes : tie.Need-sub-put-bytes
-sub-put-bytes c = search needs
+sub-copy : tie.Need-sub-copy
+sub-copy c = search needs
 
-part-put-bytes-start : tie.Need-part-put-bytes-start
-part-put-bytes-start c = search needs
+part-copy-start : tie.Need-part-copy-start
+part-copy-start c = search needs
 
-part-put-bytes-end : tie.Need-part-put-bytes-end
-part-put-bytes-end c = search needs
+part-copy-end : tie.Need-part-copy-end
+part-copy-end c = search needs
 
-put-bytes-requires : tie.Need-put-bytes-requires
-put-bytes-requires c κs = search needs
+copy-requires : tie.Need-copy-requires
+copy-requires c κs = search needs
 
 same-length : tie.Need-same-length
 same-length c = search needs
@@ -43,7 +46,7 @@ returns c =
     let s = front .put-prefix .last .1 .0 in
     let is = p .prefix .ensures .0 in
     let stored = unit-stored l (a .id) (a .action) text (a .tail .now) s (rw is at (front .put-prefix .ensures)) in
-    lent k (length text) text s (behind .put-bytes .last .0) refl (behind .put-bytes .ensures) ∙ rw is stored
+    lent k (length text) text s (behind .copy .last .0) (behind .copy .ensures ∙ onto-some text (take (length s - k) (drop k s)) (search needs)) ∙ rw is stored
 
 pub put-unit-spec : {M : Type 1} → statement M
 put-unit-spec =
@@ -52,9 +55,9 @@ put-unit-spec =
     prefix-requires
     add-put-prefix
     put-prefix-requires
-    sub-put-bytes
-    part-put-bytes-start
-    part-put-bytes-end
-    put-bytes-requires
+    sub-copy
+    part-copy-start
+    part-copy-end
+    copy-requires
     same-length
     returns)

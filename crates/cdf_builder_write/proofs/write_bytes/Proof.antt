@@ -4,8 +4,8 @@ use Prim.Native.Nat.{_+_, _≤_}
 use native.Mathlib.Omega.{arith}
 use borrow.Author.Needs.{needs}
 use borrow.Author.Tests.{leb-true}
-use lib.ListN.{length, length-drop}
-use Rattle.cdf_unit_table.proofs.Parts.{rest}
+use lib.ListN.{length}
+use Rattle.cdf_builder_copy.proofs.Onto.{onto-lent}
 use Rattle.cdf_builder_write.proofs.Lent.{wrote, stayed}
 use Rattle.cdf_builder_write.proofs.write_bytes.Statement.{statement}
 use Rattle.cdf_builder_write.proofs.write_bytes.Tie as tie
@@ -18,17 +18,17 @@ room c = leb-true _ _ (sym (c .before .has-room .ensures) ∙ c .if1 .taken)
 has-room-requires : tie.Need-has-room-requires
 has-room-requires c κs = search needs
 
-sub-put-bytes : tie.Need-sub-put-bytes
-sub-put-bytes c = omega (arith, room c)
+sub-copy : tie.Need-sub-copy
+sub-copy c = omega (arith, room c)
 
-part-put-bytes-start : tie.Need-part-put-bytes-start
-part-put-bytes-start c = omega (arith, room c)
+part-copy-start : tie.Need-part-copy-start
+part-copy-start c = omega (arith, room c)
 
-part-put-bytes-end : tie.Need-part-put-bytes-end
-part-put-bytes-end c = search needs
+part-copy-end : tie.Need-part-copy-end
+part-copy-end c = search needs
 
-put-bytes-requires : tie.Need-put-bytes-requires
-put-bytes-requires c κs = rw (rest, length-drop) (omega (arith, room (c .before)))
+copy-requires : tie.Need-copy-requires
+copy-requires c κs = search needs
 
 same-length : tie.Need-same-length
 same-length c = search needs
@@ -38,8 +38,8 @@ returns c =
     let put = c .before .before in
     let then = put .before .before in
     let a = then .before .before .before .before .args in
-    wrote (a .at) _ (a .bytes .now) (a .buffer .now) refl _ (then .before .has-room .ensures) (then .if1 .taken) (put .put-bytes .last .0)
-    (put .put-bytes .ensures)
+    wrote (a .at) _ (a .bytes .now) (a .buffer .now) refl _ (then .before .has-room .ensures) (then .if1 .taken) (put .copy .last .0)
+    (put .copy .ensures ∙ onto-lent (a .at) (a .bytes .now) (a .buffer .now) (room then))
 
 returns-2 : tie.Need-returns-2
 returns-2 c =
@@ -51,10 +51,10 @@ write-bytes-spec =
     tie.close
     (tie.spec
     has-room-requires
-    sub-put-bytes
-    part-put-bytes-start
-    part-put-bytes-end
-    put-bytes-requires
+    sub-copy
+    part-copy-start
+    part-copy-end
+    copy-requires
     same-length
     returns
     returns-2)

@@ -13,7 +13,7 @@ use Rattle.cdf_builder_spec.specs.Calls.{Reply, callOf}
 use Rattle.cdf_builder.specs.View.{view, replyOf}
 use Rattle.cdf_builder.specs.declared.Builder.{Builder}
 use Rattle.cdf_builder.specs.declared.Built.{Built}
-use Rattle.cdf_builder_c.specs.Numbers.{builderFrom, numbersOf, replyFrom, callFrom}
+use Rattle.cdf_builder_numbers.specs.Numbers.{builderFrom, numbersOf, replyFrom, callFrom}
 
 -- Numbers that are the answer's place tell the reply that is due.
 reply-of : {due : Reply} (numbers buffer : List ℕ) (a : Built) → builderFrom numbers ≡ a .place → replyOf a buffer ≡ due →

@@ -2,8 +2,8 @@
 use mathlib.Core.Path.{refl, sym}
 use borrow.Author.Needs.{needs}
 use borrow.Author.Tests.{eq-eqb, ne-eqb}
-use Rattle.cdf_builder_c.proofs.store.Statement.{statement}
-use Rattle.cdf_builder_c.proofs.store.Tie as tie
+use Rattle.cdf_builder_numbers.proofs.store.Statement.{statement}
+use Rattle.cdf_builder_numbers.proofs.store.Tie as tie
 
 returns : tie.Need-returns
 returns c = (refl, rw (ne-eqb _ 0 (c .if1 .taken)))

@@ -3,9 +3,9 @@ use Prim.Native.Nat.{_-_}
 use mathlib.Core.Path.{refl}
 use native.Mathlib.Omega.{arith}
 use lib.ListN.{length}
-use Rattle.cdf_builder_write.proofs.Fronts.{Copied, copied-more, copied-all}
-use Rattle.cdf_builder_write.proofs.put_bytes.Statement.{statement}
-use Rattle.cdf_builder_write.proofs.put_bytes.Tie as tie
+use Rattle.cdf_builder_copy.proofs.Copying.{Copied, copied-one, copied-all}
+use Rattle.cdf_builder_copy.proofs.copy_few.Statement.{statement}
+use Rattle.cdf_builder_copy.proofs.copy_few.Tie as tie
 
 abbrev Inv-loop : tie.InvT-loop
 Inv-loop tail₀ bytes i₀ tail i = Copied tail₀ bytes tail i
@@ -29,7 +29,7 @@ loop-less : tie.Need-loop-less Inv-loop μ-loop
 loop-less c = omega arith
 
 loop-again : tie.Need-loop-again Inv-loop μ-loop
-loop-again c = copied-more (c .before .before .loop .inv) (c .before .loop-test .taken) (omega arith)
+loop-again c = copied-one (c .before .before .loop .inv) (c .before .loop-test .taken) (omega arith)
 
 same-length : tie.Need-same-length Inv-loop μ-loop
 same-length c = c .before .loop .inv .long
@@ -37,8 +37,8 @@ same-length c = c .before .loop .inv .long
 returns : tie.Need-returns Inv-loop μ-loop
 returns c = copied-all (c .before .loop .inv) (c .loop-test .left)
 
-pub put-bytes-spec : {M : Type 1} → statement M
-put-bytes-spec =
+pub copy-few-spec : {M : Type 1} → statement M
+copy-few-spec =
     tie.close
     (tie.spec
     Inv-loop

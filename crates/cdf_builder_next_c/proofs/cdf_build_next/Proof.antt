@@ -1,8 +1,8 @@
 -- The builder's NEXT at the place that the numbers are.
 use borrow.Author.Needs.{needs}
-use Rattle.cdf_builder_c.proofs.Told.{called}
-use Rattle.cdf_builder_c.proofs.cdf_build_next.Statement.{statement}
-use Rattle.cdf_builder_c.proofs.cdf_build_next.Tie as tie
+use Rattle.cdf_builder_numbers.proofs.Told.{called}
+use Rattle.cdf_builder_next_c.proofs.cdf_build_next.Statement.{statement}
+use Rattle.cdf_builder_next_c.proofs.cdf_build_next.Tie as tie
 
 builder-from-requires : tie.Need-builder-from-requires
 builder-from-requires c κs = search needs

@@ -1,8 +1,8 @@
 -- Number by number.
 use mathlib.Core.Path.{refl}
 use borrow.Author.Needs.{needs}
-use Rattle.cdf_builder_c.proofs.builder_from.Statement.{statement}
-use Rattle.cdf_builder_c.proofs.builder_from.Tie as tie
+use Rattle.cdf_builder_numbers.proofs.builder_from.Statement.{statement}
+use Rattle.cdf_builder_numbers.proofs.builder_from.Tie as tie
 
 returns : tie.Need-returns
 returns c = refl
