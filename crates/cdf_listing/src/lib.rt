@@ -1,10 +1,12 @@
 // The listing of a stream as text, written into a lent buffer.
 ghost use mathlib.Core.Path.{_≡_};
+ghost use lib.Dec.{leb};
+ghost use lib.ListN.{length};
 ghost use Rattle.cdf_unit_prefix.specs.Layout.{layoutOf};
 ghost use Rattle.cdf_unit_prefix.specs.declared.Edition.the-variants.{First};
 ghost use Rattle.cdf_listing_spec.specs.Text.{listedLines, listingText};
 ghost use Rattle.cdf_listing_lines.specs.Put.{Put};
-ghost use Rattle.cdf_listing.specs.Written.{writtenOf, bufferOf};
+ghost use Rattle.cdf_listing.specs.Written.{anyFits, writtenOf, bufferOf};
 use cdf_check::Checked;
 use cdf_check::check;
 use cdf_listing_lines::put_line;
@@ -48,15 +50,35 @@ fn put_listing(s: &[u8], out: &mut [u8]) -> usize
     }
 }
 
-// Writes the listing of s, a stream of the first edition or any other bytes, at the front of the buffer, if the whole of it fits. The
-// first pass only counts: its buffer is too small for any text.
+// Whether the room is enough for the listing of any n bytes. It is asked by lines, so that no product can be too large.
+fn any_fits(n: usize, room: usize) -> bool
+    ensures { λ r. ⌜ r ≡ anyFits n room ⌝ }
+{
+    if room < 9 {
+        return false;
+    }
+    let lines = (room - 9) / 19;
+    (n / 6 <= lines) & (6 <= n)
+}
+
+// Whether the listing of s fits the room: if need be it is counted, by a pass whose buffer is too small for any text.
+fn text_fits(s: &[u8], room: usize) -> bool
+    ensures { λ r. ⌜ r ≡ leb (length (listingText (layoutOf First) (now (s .entry)))) room ⌝ }
+{
+    if any_fits(s.len(), room) {
+        return true;
+    }
+    let mut none = [0u8; 1];
+    let size = put_listing(s, &mut none);
+    size <= room
+}
+
+// Writes the listing of s, a stream of the first edition or any other bytes, at the front of the buffer, if the whole of it fits.
 pub fn write_listing(s: &[u8], buffer: &mut [u8]) -> Written
     ensures is { λ r. ⌜ r ≡ writtenOf (listingText (layoutOf First) (now (s .entry))) (now (buffer .entry)) ⌝ }
     ensures bytes { λ r. ⌜ now (buffer .exit) ≡ bufferOf (listingText (layoutOf First) (now (s .entry))) (now (buffer .entry)) ⌝ }
 {
-    let mut none = [0u8; 1];
-    let size = put_listing(s, &mut none);
-    if buffer.len() < size {
+    if !text_fits(s, buffer.len()) {
         return Written {
             number: 12,
             length: 0,

@@ -49,6 +49,11 @@ few-digits (suc k) n h =
     (of-cond (λ x. length x ≤ suc (suc k)) (ltb n 10) (digit n) (decimal (n / 10) ++ digit (n % 10)) (λ e. omega arith)
     (λ e. simp length-append (omega arith)))
 
+-- By that any number n has at most n + 1 digits.
+pub below-power : (n : ℕ) → n < 10 ^ suc n
+below-power zero = omega arith
+below-power (suc n) = let less = below-power n in omega (arith, pow-suc 10 (suc n))
+
 read-digit : (ds : List ℕ) (high d : ℕ) → readFrom high (ds ++ digit d) ≡ readFrom high ds * 10 + d
 unfolding readFrom
 read-digit [] high d = omega arith

@@ -6,7 +6,7 @@ use Rattle.cdf_listing_spec.specs.Decimal.{digitsBy, decimal}
 use Rattle.cdf_listing_spec.specs.Text.{number, columns, lineOf, linesOf, listedLines, okLine, refusedLine, listingText}
 use Rattle.cdf_listing_spec.specs.Claims.{Claims}
 use Rattle.cdf_listing_spec.proofs.Digits.{read-back}
-use Rattle.cdf_listing_spec.proofs.Short.{short}
+use Rattle.cdf_listing_spec.proofs.Short.{short, roomy}
 
 pub proved : Claims
 unfolding digitsBy decimal number columns lineOf linesOf listedLines okLine refusedLine listingText checkOf listing depths
@@ -15,4 +15,5 @@ proved = record {
   k1-text = refl;
   k6-text = refl;
   short = short;
+  roomy = roomy;
 }

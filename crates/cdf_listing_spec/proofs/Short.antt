@@ -14,8 +14,8 @@ use Rattle.cdf_unit_list.specs.declared.Unit.{Unit}
 use Rattle.cdf_unit_list.proofs.Proved.{proved}
 use Rattle.cdf_reader_runs.proofs.Readings.{check-is}
 use Rattle.cdf_listing_spec.specs.Text.{number, columns, lineOf, linesOf, listedLines, okLine, refusedLine, listingText}
-use Rattle.cdf_listing_spec.specs.Claims.{textRoom}
-use Rattle.cdf_listing_spec.proofs.Digits.{few-digits}
+use Rattle.cdf_listing_spec.specs.Claims.{textRoom, roomBy}
+use Rattle.cdf_listing_spec.proofs.Digits.{few-digits, below-power}
 use Rattle.cdf_listing_spec.proofs.Within.{Fair, EachFair, OfEnd, within, limited}
 
 module _ (n : ℕ) (small : n < 10 ^ 5) where
@@ -50,17 +50,24 @@ refused-short j k n offset h i =
     let place = few-digits k offset i in
     simp length-append (omega arith)
 
--- Of any bytes: at most 10,922 lines.
-pub listed-short : (s : List ℕ) → length (listedLines (layoutOf First) s) ≤ 207518
+-- A line of 19 bytes at most for each unit: bytes past the longest stream have none.
+lines-by-units : (s : List ℕ) → length (listedLines (layoutOf First) s) ≤ 19 * length (listing (layoutOf First) s .units)
 unfolding listedLines linesOf depths
-listed-short s =
+lines-by-units s =
     let l = layoutOf First in
     let us = listing l s .units in
     ⊎-elim (λ none. rw none (omega arith))
-    (λ some.
-    let lines = lines-short (length s) (omega arith) (depths [] us) us (proved .shallow l s) (within l s .0) in
-    omega (arith, proved .few l s))
+    (λ some. lines-short (length s) (omega arith) (depths [] us) us (proved .shallow l s) (within l s .0))
     (limited l s)
+
+-- Of any bytes: at most 10,922 units.
+units-few : (s : List ℕ) → length (listing (layoutOf First) s .units) ≤ 10922
+units-few s =
+    let l = layoutOf First in
+    ⊎-elim (λ none. rw none (omega arith)) (λ some. omega (arith, proved .few l s)) (limited l s)
+
+pub listed-short : (s : List ℕ) → length (listedLines (layoutOf First) s) ≤ 207518
+listed-short s = omega (arith, lines-by-units s, units-few s)
 
 module _ (l : Layout) (s : List ℕ) where
   -- The text of an accepted stream,
@@ -74,17 +81,23 @@ module _ (l : Layout) (s : List ℕ) where
   refused-text n offset e =
       let w = proved .numbered l s e in rw (check-is l s, e, ne-eqb n 0 (λ z. omega arith))
 
-pub short : (s : List ℕ) → length s ≤ 65536 → length (listingText (layoutOf First) s) ≤ textRoom
-short s h = go (listing (layoutOf First) s .end) refl (within (layoutOf First) s .1)
+-- Any text fits where lines for all bytes do, and a refusal whose offset has as many digits as there are bytes.
+text-within : (s : List ℕ) (room : ℕ) → roomBy (length s) ≤ room → 16 + length s ≤ room → length (listingText (layoutOf First) s) ≤ room
+text-within s room lines line = go (listing (layoutOf First) s .end) refl (within (layoutOf First) s .1)
   where
-    go : (e : End) → listing (layoutOf First) s .end ≡ e → OfEnd (length s) e → length (listingText (layoutOf First) s) ≤ textRoom
+    go : (e : End) → listing (layoutOf First) s .end ≡ e → OfEnd (length s) e → length (listingText (layoutOf First) s) ≤ room
     go unfinished q f = absurd (proved .finishes (layoutOf First) s q)
     go ended q f =
-        let few = proved .few (layoutOf First) s in
-        let ok = ok-short 4 (length (listing (layoutOf First) s .units)) (omega arith) in
-        let lines = listed-short s in
-        rw (ok-text (layoutOf First) s q) (simp length-append (omega arith))
+        let ok = ok-short 4 (length (listing (layoutOf First) s .units)) (omega (arith, units-few s)) in
+        rw (ok-text (layoutOf First) s q)
+        (simp length-append (omega (arith, ok, lines-by-units s, proved .few (layoutOf First) s)))
     go (fault n offset) q f =
         let w = proved .numbered (layoutOf First) s q in
-        let line = refused-short 1 4 n offset (omega arith) (omega arith) in
+        let refusal = refused-short 1 offset n offset (omega arith) (below-power offset) in
         rw (refused-text (layoutOf First) s n offset q) (omega arith)
+
+pub short : (s : List ℕ) → length s ≤ 65536 → length (listingText (layoutOf First) s) ≤ textRoom
+short s h = text-within s textRoom (omega arith) (omega arith)
+
+pub roomy : (s : List ℕ) → 6 ≤ length s → length (listingText (layoutOf First) s) ≤ roomBy (length s)
+roomy s h = text-within s (roomBy (length s)) (omega arith) (omega arith)

@@ -1,5 +1,5 @@
 -- What is claimed of the listing's text. The term of this record stands in proofs/Proved.
-use Prim.Native.Nat.{ℕ, _≤_}
+use Prim.Native.Nat.{ℕ, _+_, _*_, _/_, _≤_}
 use mathlib.Core.Path.{_≡_}
 use mathlib.Core.List.{List, [], _∷_}
 use lib.ListN.{length, set}
@@ -12,6 +12,10 @@ use Rattle.cdf_listing_spec.specs.Text.{listingText}
 -- The program's buffer: 10,922 lines of 19 bytes, and `ok 10922` with its line feed.
 abbrev pub textRoom : ℕ
 textRoom = 207527
+
+-- Room by the bytes there are: a line of 19 bytes for every six of them, and the last line. At 65,536 it is textRoom.
+abbrev pub roomBy : ℕ → ℕ
+roomBy n = 19 * (n / 6) + 9
 
 pub record Claims : Type 0 where
   -- Any number is read back from its digits.
@@ -26,3 +30,5 @@ pub record Claims : Type 0 where
       ≡ 0x72 ∷ 0x65 ∷ 0x66 ∷ 0x75 ∷ 0x73 ∷ 0x65 ∷ 0x64 ∷ 32 ∷ 0x35 ∷ 32 ∷ 0x61 ∷ 0x74 ∷ 32 ∷ 0x36 ∷ 10 ∷ []
   -- The text of any 65,536 bytes, or fewer, fits the program's buffer.
   pub short : (s : List ℕ) → length s ≤ 65536 → length (listingText (layoutOf First) s) ≤ textRoom
+  -- And that of any six bytes, or more, the room that goes by their number. (Of fewer it is a refusal, of 15 bytes or more.)
+  pub roomy : (s : List ℕ) → 6 ≤ length s → length (listingText (layoutOf First) s) ≤ roomBy (length s)

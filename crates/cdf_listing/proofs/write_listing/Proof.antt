@@ -1,6 +1,7 @@
--- Both passes put the same text: the first one tells its length.
-use native.Mathlib.Omega.{arith}
+-- The text is put into the buffer once it is known to fit.
+use mathlib.Core.Path.{sym, _∙_}
 use borrow.Author.Needs.{needs}
+use borrow.Author.Tests.{not-true, not-false}
 use Rattle.cdf_unit_prefix.specs.Layout.{layoutOf}
 use Rattle.cdf_unit_prefix.specs.declared.Edition.the-variants.{First}
 use Rattle.cdf_listing_spec.specs.Text.{listingText}
@@ -8,21 +9,18 @@ use Rattle.cdf_listing.proofs.Filled.{too-long, filled}
 use Rattle.cdf_listing.proofs.write_listing.Statement.{statement}
 use Rattle.cdf_listing.proofs.write_listing.Tie as tie
 
-slice-aggregate-put-listing : tie.Need-slice-aggregate-put-listing
-slice-aggregate-put-listing c = search needs
-
-put-listing-requires : tie.Need-put-listing-requires
-put-listing-requires c κs = search needs
+text-fits-requires : tie.Need-text-fits-requires
+text-fits-requires c κs = search needs
 
 returns : tie.Need-returns
 returns c =
-    let counted = c .before .before in
-    let start = counted .before .before .before .before in
+    let asked = c .before in
+    let start = asked .before .before .before in
     too-long (listingText (layoutOf First) (start .args .s .now)) (start .args .buffer .now)
-    (omega (arith, c .if1 .taken, counted .put-listing .ensures .next))
+    (sym (asked .text-fits .ensures) ∙ not-true (asked .text-fits .result) (c .if1 .taken))
 
-put-listing-requires-2 : tie.Need-put-listing-requires-2
-put-listing-requires-2 c κs = search needs
+put-listing-requires : tie.Need-put-listing-requires
+put-listing-requires c κs = search needs
 
 same-length : tie.Need-same-length
 same-length c = search needs
@@ -31,18 +29,10 @@ returns-2 : tie.Need-returns-2
 returns-2 c =
     let written = c .before .before in
     let room = written .before .before in
-    let counted = room .before .before in
-    let start = counted .before .before .before .before in
+    let asked = room .before in
+    let start = asked .before .before .before in
     filled (listingText (layoutOf First) (start .args .s .now)) (start .args .buffer .now)
-    (omega (arith, room .if1 .left, counted .put-listing .ensures .next)) (written .put-listing2 .ensures)
+    (sym (asked .text-fits .ensures) ∙ not-false (asked .text-fits .result) (room .if1 .left)) (written .put-listing .ensures)
 
 pub write-listing-spec : {M : Type 1} → statement M
-write-listing-spec =
-    tie.close
-    (tie.spec
-    slice-aggregate-put-listing
-    put-listing-requires
-    returns
-    put-listing-requires-2
-    same-length
-    returns-2)
+write-listing-spec = tie.close (tie.spec text-fits-requires returns put-listing-requires same-length returns-2)
