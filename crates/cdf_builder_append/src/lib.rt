@@ -15,15 +15,22 @@ use cdf_builder_write::write_length;
 use cdf_builder_write::write_unit;
 use cdf_unit_prefix::Edition;
 
-// Writes the length of an open unit, from its start to where the writing stands.
+// How long a unit is, from its start to where the writing stands.
+fn length_to(written: usize, start: usize) -> usize
+    ensures { λ r. ⌜ r ≡ written - start ⌝ }
+{
+    if written < start {
+        return 0;
+    }
+    written - start
+}
+
+// Writes the length of an open unit.
 fn write_open(edition: Edition, buffer: &mut [u8], written: usize, o: Begun)
     ensures { λ r. ⌜ now (buffer .exit) ≡ patch (o .start + 2) (bytesOf (layoutOf edition .lengthBytes) (written - o .start)) (now (buffer .entry)) ⌝ }
 {
-    if written < o.start {
-        write_length(edition, buffer, o.start, 0);
-        return;
-    }
-    write_length(edition, buffer, o.start, written - o.start);
+    let len = length_to(written, o.start);
+    write_length(edition, buffer, o.start, len);
 }
 
 // Writes the lengths of the units around the innermost one, from the outermost inwards.

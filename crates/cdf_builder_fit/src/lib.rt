@@ -1,39 +1,45 @@
 // Whether a builder's place could belong to a buffer.
 ghost use mathlib.Core.Path.{_≡_};
-ghost use mathlib.Core.Bool.{_&&_, _||_};
-ghost use lib.Dec.{ltb};
 ghost use Rattle.cdf_unit_prefix.specs.Layout.{layoutOf};
-ghost use Rattle.cdf_builder_spec.specs.Place.{buildable, fits};
-ghost use Rattle.cdf_builder_spec.specs.Slots.{placed};
+ghost use Rattle.cdf_builder_spec.specs.Place.{fits};
+ghost use Rattle.cdf_builder_spec.specs.Slots.{units, placed};
+ghost use Rattle.cdf_builder_fit.specs.Linked.{outermost, inside, linked};
 use cdf_builder_spec::Begun;
 use cdf_builder_spec::Parts;
-use cdf_reader_fit::is_chain;
 use cdf_reader_open::is_past;
-use cdf_unit_list::Open;
+use cdf_reader_open::is_root;
+use cdf_reader_open::nests;
 use cdf_unit_prefix::Edition;
 use cdf_unit_prefix::limit;
 use cdf_unit_states::is_unskipped;
 
-// Whether the innermost unit may be in its state, and each other that the count reaches.
-fn are_buildable(count: usize, top: Begun, o1: Begun, o2: Begun, o3: Begun) -> bool
-    ensures { λ r. ⌜ r ≡
-        (buildable (top .state)
-        && ((ltb count 4 || buildable (o3 .state))
-        && ((ltb count 3 || buildable (o2 .state)) && (ltb count 2 || buildable (o1 .state))))) ⌝ }
+// Whether the unit may be the outermost: the builder skips none.
+fn is_outermost(o: Begun) -> bool
+    ensures { λ r. ⌜ r ≡ outermost o ⌝ }
 {
-    is_unskipped(top.state)
-        & (((count < 4) | is_unskipped(o3.state))
-            & (((count < 3) | is_unskipped(o2.state)) & ((count < 2) | is_unskipped(o1.state))))
+    is_unskipped(o.state) & (is_root(o.state) & (o.start == 0))
 }
 
-// The unit as the reader would have it, of which the chain of open units is asked: it ends where the writing stands.
-fn as_open(written: usize, o: Begun) -> Open
-    ensures { λ r. ⌜ r ≡ record { state = o .state; start = o .start; end = written } ⌝ }
+// Whether o may stand in p.
+fn is_inside(edition: Edition, p: Begun, o: Begun) -> bool
+    ensures { λ r. ⌜ r ≡ inside (layoutOf edition) p o ⌝ }
 {
-    Open {
-        state: o.state,
-        start: o.start,
-        end: written,
+    is_unskipped(o.state) & (nests(p.state, o.state) & is_past(edition, p.start, o.start))
+}
+
+// Whether so many open units stand in one another. Each count has an arm of its own, so that no unit is asked that it does not reach.
+fn are_linked(edition: Edition, count: usize, top: Begun, o1: Begun, o2: Begun, o3: Begun) -> bool
+    ensures { λ r. ⌜ r ≡ linked (layoutOf edition) (units count top o1 o2 o3) ⌝ }
+{
+    match count {
+        1 => is_outermost(top),
+        2 => is_inside(edition, o1, top) & is_outermost(o1),
+        3 => is_inside(edition, o2, top) & (is_inside(edition, o1, o2) & is_outermost(o1)),
+        4 => {
+            is_inside(edition, o3, top)
+                & (is_inside(edition, o2, o3) & (is_inside(edition, o1, o2) & is_outermost(o1)))
+        }
+        _ => false,
     }
 }
 
@@ -56,16 +62,5 @@ pub fn is_fit(edition: Edition, n: usize, p: Parts) -> bool
     if !is_past(edition, top.start, written) {
         return false;
     }
-    if !are_buildable(count, top, o1, o2, o3) {
-        return false;
-    }
-    is_chain(
-        edition,
-        written,
-        count,
-        as_open(written, top),
-        as_open(written, o1),
-        as_open(written, o2),
-        as_open(written, o3),
-    )
+    are_linked(edition, count, top, o1, o2, o3)
 }

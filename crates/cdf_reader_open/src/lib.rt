@@ -21,7 +21,7 @@ use cdf_unit_table::STREAM_SKIPPED;
 use cdf_unit_table::TEMPLATE_NEW;
 
 // Whether a unit in this state may be a root: an EDMM stream or a group.
-fn is_root(state: usize) -> bool
+pub fn is_root(state: usize) -> bool
     ensures { λ r. ⌜ r ≡ rootKind (unitOf state) ⌝ }
 {
     (STREAM_NEW <= state) & (state <= FILE_SKIPPED)
@@ -29,7 +29,7 @@ fn is_root(state: usize) -> bool
 
 // Whether a unit in the state `outer` admits, whatever it has had, the kind of one in the state `inner`: a stream groups and
 // calls, an E/R group templates and relations, a relation entity keys.
-fn nests(outer: usize, inner: usize) -> bool
+pub fn nests(outer: usize, inner: usize) -> bool
     ensures { λ r. ⌜ r ≡ admitsKind (unitOf outer) (unitOf inner) ⌝ }
 {
     if (ER_NEW <= outer) & (outer <= ER_SKIPPED) {

@@ -1,8 +1,8 @@
 -- Open units that lie in one another: what their kinds tell of their states and heights, and the tests of the code as clauses.
 use Prim.Native.Nat.{ℕ, suc, _+_, _≤_}
-use mathlib.Core.Path.{_≡_, refl, ap}
-use mathlib.Core.Bool.{Bool, true, _&&_, false≢true}
-use mathlib.Core.List.{List, [], _∷_, map}
+use mathlib.Core.Path.{_≡_, refl}
+use mathlib.Core.Bool.{true, false≢true}
+use mathlib.Core.List.{List, [], _∷_}
 use native.Mathlib.Omega.{arith}
 use lib.Dec.{leb, eqb}
 use lib.ListN.{length}
@@ -25,14 +25,6 @@ root-unit state e = unit-state state (λ z. absurd (false≢true (rw z at e)))
 
 kind-unit : (unit state : ℕ) → admitsKind unit (unitOf state) ≡ true → isState state ≡ true
 kind-unit unit state e = unit-state state (λ z. absurd (false≢true (rw (none-admits unit (unitOf state) z) at e)))
-
--- What is asked of units in another form is asked of the units themselves.
-pub nested-map : {A B : Type 0} (f : A → B) (root : B → Bool) (inner : B → B → Bool) (os : List A) →
-    nested root inner (map f os) ≡ nested (λ o. root (f o)) (λ p o. inner (f p) (f o)) os
-unfolding nested
-nested-map f root inner [] = refl
-nested-map f root inner (o ∷ []) = refl
-nested-map f root inner (o ∷ p ∷ os) = ap (λ b. inner (f p) (f o) && b) (nested-map f root inner (p ∷ os))
 
 -- Open units of any form, if they have a state.
 module _ {A : Type 0} (state : A → ℕ) where

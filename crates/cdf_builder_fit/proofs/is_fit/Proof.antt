@@ -1,10 +1,10 @@
 -- Each return by its law. A place of the code is named by the test just passed: `room` the buffer's, `within` the limit's, `past`
--- the innermost unit's, `states` the units' states'.
+-- the innermost unit's.
 use mathlib.Core.Path.{sym, _∙_}
 use borrow.Author.Needs.{needs}
 use borrow.Author.Tests.{not-true, not-false}
 use Rattle.cdf_unit_prefix.specs.Layout.{layoutOf}
-use Rattle.cdf_builder_fit.proofs.Parted.{written-not, limit-not, past-not, states-not, by-chain}
+use Rattle.cdf_builder_fit.proofs.Parted.{written-not, limit-not, past-not, by-linked}
 use Rattle.cdf_builder_fit.proofs.is_fit.Statement.{statement}
 use Rattle.cdf_builder_fit.proofs.is_fit.Tie as tie
 
@@ -35,68 +35,22 @@ returns-3 c =
     past-not (p .written) (p .top) (p .o1) (p .o2) (p .o3) (layoutOf (a .edition)) (a .n) (p .count)
     (sym (past .ensures) ∙ not-true (past .result) (c .if3 .taken))
 
-are-buildable-requires : tie.Need-are-buildable-requires
-are-buildable-requires c κs = search needs
+are-linked-requires : tie.Need-are-linked-requires
+are-linked-requires c κs = search needs
 
 returns-4 : tie.Need-returns-4
 returns-4 c =
-    let a = c .before .before .before .before .before .before .before .before .before .before .before .args in
-    let p = a .p in
-    let states = c .before .are-buildable in
-    states-not (p .written) (p .top) (p .o1) (p .o2) (p .o3) (layoutOf (a .edition)) (a .n) (p .count)
-    (sym (states .ensures) ∙ not-true (states .result) (c .if4 .taken))
-
-as-open-requires : tie.Need-as-open-requires
-as-open-requires c κs = search needs
-
-as-open-requires-2 : tie.Need-as-open-requires-2
-as-open-requires-2 c κs = search needs
-
-as-open-requires-3 : tie.Need-as-open-requires-3
-as-open-requires-3 c κs = search needs
-
-as-open-requires-4 : tie.Need-as-open-requires-4
-as-open-requires-4 c κs = search needs
-
-is-chain-requires : tie.Need-is-chain-requires
-is-chain-requires c κs = search needs
-
-returns-5 : tie.Need-returns-5
-returns-5 c =
-    let outer = c .before in
-    let states = outer .before .before .before .before in
-    let past = states .before .before in
+    let past = c .before in
     let within = past .before .before in
     let room = within .before .before in
     let a = room .before .before .before .before .before .args in
     let p = a .p in
-    let chain = c .is-chain .ensures in
-    rw (
-      outer .before .before .before .as-open .ensures,
-      outer .before .before .as-open2 .ensures,
-      outer .before .as-open3 .ensures,
-      outer .as-open4 .ensures,
-    ) at chain
-    ∙ by-chain (p .written) (p .top) (p .o1) (p .o2) (p .o3) (layoutOf (a .edition)) (a .n) (p .count)
+    c .are-linked .ensures
+    ∙ by-linked (p .written) (p .top) (p .o1) (p .o2) (p .o3) (layoutOf (a .edition)) (a .n) (p .count)
     (room .if1 .left)
     (rw (within .before .limit .ensures) at (within .if2 .left))
     (sym (past .before .is-past .ensures) ∙ not-false (past .before .is-past .result) (past .if3 .left))
-    (sym (states .before .are-buildable .ensures) ∙ not-false (states .before .are-buildable .result) (states .if4 .left))
 
 pub is-fit-spec : {M : Type 1} → statement M
 is-fit-spec =
-    tie.close
-    (tie.spec
-    returns
-    limit-requires
-    returns-2
-    is-past-requires
-    returns-3
-    are-buildable-requires
-    returns-4
-    as-open-requires
-    as-open-requires-2
-    as-open-requires-3
-    as-open-requires-4
-    is-chain-requires
-    returns-5)
+    tie.close (tie.spec returns limit-requires returns-2 is-past-requires returns-3 are-linked-requires returns-4)
