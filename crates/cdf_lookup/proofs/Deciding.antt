@@ -1,6 +1,6 @@
 -- The answer, stage by stage.
 use Prim.Native.Nat.{ℕ, _+_, _≤_}
-use mathlib.Core.Path.{_≡_, refl, ap}
+use mathlib.Core.Path.{_≡_, refl, sym, ap, _∙_}
 use mathlib.Core.Bool.{Bool, true, false, not, cond, _&&_}
 use mathlib.Core.List.{List}
 use native.Mathlib.Omega.{arith}
@@ -11,58 +11,86 @@ use Rattle.cdf_unit_prefix.specs.Layout.{Layout, layoutOf}
 use Rattle.cdf_unit_prefix.specs.declared.Edition.{Edition}
 use Rattle.cdf_unit_list.specs.Units.{listing}
 use Rattle.cdf_unit_list.specs.Check.{checkOf}
-use Rattle.cdf_grammar.specs.Trees.{Forest}
-use Rattle.cdf_grammar.specs.Encoding.{Stream}
+use Rattle.cdf_grammar.specs.Encoding.{Bytes}
+use Rattle.cdf_grammar.proofs.Proved.{proved}
 use Rattle.cdf_lookup_spec.specs.Find.{Query, valueIn, refusal, found, orElse, isGroup, lookupOf}
-use Rattle.cdf_lookup_spec.specs.Search.{searchOf}
 use Rattle.cdf_lookup_spec.specs.Chosen.{streamOf}
 use Rattle.cdf_lookup_spec.specs.declared.Lookup.{Lookup}
+use Rattle.cdf_lookup_spec.specs.declared.Value.{Value}
+use Rattle.cdf_lookup_spec.specs.declared.Value.the-variants.{At, Missing}
 use Rattle.cdf_lookup_spec.proofs.Streams.{search-finds}
-use Rattle.cdf_lookup.specs.Parts.{rootNumber}
+use Rattle.cdf_lookup_search.specs.Walking.{walkedOf}
+use Rattle.cdf_lookup_search.specs.declared.Walked.{Walked}
 
 -- Two roots asked one after the other, or together.
-roots : (f g : Bool) (x : Lookup) → cond (not f) (refusal 7 0) (cond (not g) (refusal 7 0) x)
-    ≡ cond (not (eqb (cond (f && g) 0 7) 0)) (refusal (cond (f && g) 0 7) 0) x
+roots : (f g : Bool) (x : Lookup) → cond (not f) (refusal 7 0) (cond (not g) (refusal 7 0) x) ≡ cond (f && g) x (refusal 7 0)
 roots true true x = refl
 roots true false x = refl
 roots false g x = refl
 
-module _ (l : Layout) (s t : List ℕ) (q : Query) where
+-- What a walk over a stream tells: a refusal's offset is the check's,
+module _ (e : Edition) (s : List ℕ) (q : Query) (w : Walked) (h : w ≡ walkedOf (layoutOf e) s q) where
+  offset-is : (w .number ≡ 0 → ⊥) → w .offset ≡ checkOf (layoutOf e) s .value
+  unfolding walkedOf
+  offset-is some =
+      ap (λ (x : Walked). x .offset) h
+      ∙ rw (ne-eqb (checkOf (layoutOf e) s .number) 0 (λ z. some (ap (λ (x : Walked). x .number) h ∙ z)))
+
+  -- and in an accepted one it finds what the definition says.
+  value-is : Bytes s → w .number ≡ 0 → valueIn (layoutOf e) s q ≡ w .value
+  unfolding walkedOf
+  value-is bytes z =
+      let tree = proved .streams e .exactly s bytes .0 (sym (ap (λ (x : Walked). x .number) h) ∙ z) in
+      sym (search-finds e s q (tree .0) (tree .1)) ∙ sym (ap (λ (x : Walked). x .value) h)
+
+-- By a walk over each of two streams, in the order of the code: both checks, then the roots together, then the values.
+module _ (e : Edition) (s t : List ℕ) (q : Query) (one two : Walked) (f : one ≡ walkedOf (layoutOf e) s q) (g : two ≡ walkedOf (layoutOf e) t q) where
+  abbrev l : Layout
+  l = layoutOf e
+
   abbrev values : Lookup
   values = orElse 1 (valueIn l s q) (orElse 2 (valueIn l t q) (refusal 15 0))
 
-  -- In the order of the code: both checks, then the roots together.
   decided : lookupOf l s t q
-      ≡ cond (not (eqb (checkOf l s .number) 0)) (refusal (checkOf l s .number) (checkOf l s .value))
-      (cond (not (eqb (checkOf l t .number) 0)) (refusal (checkOf l t .number) (checkOf l t .value))
-      (cond (not (eqb (rootNumber l s t) 0)) (refusal (rootNumber l s t) 0) values))
-  unfolding lookupOf rootNumber
+      ≡ cond (not (eqb (one .number) 0)) (refusal (one .number) (checkOf l s .value))
+      (cond (not (eqb (two .number) 0)) (refusal (two .number) (checkOf l t .value)) (cond (one .group && two .group) values (refusal 7 0)))
+  unfolding lookupOf walkedOf
   decided =
-      ap (λ (r : Lookup). cond (not (eqb (checkOf l s .number) 0)) (refusal (checkOf l s .number) (checkOf l s .value))
+      rw (f, g)
+      (ap (λ (r : Lookup). cond (not (eqb (checkOf l s .number) 0)) (refusal (checkOf l s .number) (checkOf l s .value))
       (cond (not (eqb (checkOf l t .number) 0)) (refusal (checkOf l t .number) (checkOf l t .value)) r))
-      (roots (isGroup (listing l s .units)) (isGroup (listing l t .units)) values)
+      (roots (isGroup (listing l s .units)) (isGroup (listing l t .units)) values))
 
-  -- Each refusal by the number and the offset that the code has there.
-  pub by-first : (n at : ℕ) → n ≡ checkOf l s .number → at ≡ checkOf l s .value → (n ≡ 0 → ⊥) → refusal n at ≡ lookupOf l s t q
-  by-first n at e f some = rw (decided, ← e, ← f, ne-eqb n 0 some)
+  pub by-first : (one .number ≡ 0 → ⊥) → refusal (one .number) (one .offset) ≡ lookupOf l s t q
+  by-first some = rw (decided, offset-is e s q one f some, ne-eqb (one .number) 0 some)
 
-  module _ (a : checkOf l s .number ≡ 0) where
-    pub by-second : (n at : ℕ) → n ≡ checkOf l t .number → at ≡ checkOf l t .value → (n ≡ 0 → ⊥) → refusal n at ≡ lookupOf l s t q
-    by-second n at e f some = rw (decided, eq-eqb (checkOf l s .number) 0 a, ← e, ← f, ne-eqb n 0 some)
+  module _ (a : one .number ≡ 0) where
+    pub by-second : (two .number ≡ 0 → ⊥) → refusal (two .number) (two .offset) ≡ lookupOf l s t q
+    by-second some = rw (decided, offset-is e t q two g some, eq-eqb (one .number) 0 a, ne-eqb (two .number) 0 some)
 
-    module _ (b : checkOf l t .number ≡ 0) where
-      pub by-root : (n at : ℕ) → n ≡ rootNumber l s t → at ≡ 0 → (n ≡ 0 → ⊥) → refusal n at ≡ lookupOf l s t q
-      by-root n at e f some = rw (decided, eq-eqb (checkOf l s .number) 0 a, eq-eqb (checkOf l t .number) 0 b, ← e, f, ne-eqb n 0 some)
+    module _ (b : two .number ≡ 0) where
+      pub by-roots : (one .group && two .group) ≡ false → refusal 7 0 ≡ lookupOf l s t q
+      by-roots h = rw (decided, eq-eqb (one .number) 0 a, eq-eqb (two .number) 0 b, h)
 
-      by-values : rootNumber l s t ≡ 0 → lookupOf l s t q ≡ values
-      by-values r = rw (decided, eq-eqb (checkOf l s .number) 0 a, eq-eqb (checkOf l t .number) 0 b, eq-eqb (rootNumber l s t) 0 r)
+      pub by-values : Bytes s → Bytes t → (one .group && two .group) ≡ true →
+          lookupOf l s t q ≡ orElse 1 (one .value) (orElse 2 (two .value) (refusal 15 0))
+      by-values m n h =
+          rw (decided, eq-eqb (one .number) 0 a, eq-eqb (two .number) 0 b, h, value-is e s q one f m a, value-is e t q two g n b)
 
--- Of two streams, by one pass over each.
-pub by-search : (e : Edition) (s t : List ℕ) (q : Query) → ((f : Forest) × Stream (layoutOf e) s f) → ((g : Forest) × Stream (layoutOf e) t g) →
-    checkOf (layoutOf e) s .number ≡ 0 → checkOf (layoutOf e) t .number ≡ 0 → rootNumber (layoutOf e) s t ≡ 0 →
-    lookupOf (layoutOf e) s t q ≡ orElse 1 (searchOf (layoutOf e) s q) (orElse 2 (searchOf (layoutOf e) t q) (refusal 15 0))
-by-search e s t q f g a b r =
-    rw (search-finds e s q (f .0) (f .1), search-finds e t q (g .0) (g .1)) (by-values (layoutOf e) s t q a b r)
+-- The answer by the two values.
+module _ (v w : Value) (x : Lookup) (e : x ≡ orElse 1 v (orElse 2 w (refusal 15 0))) where
+  pub of-first : (start end : ℕ) → v ≡ At start end → found 1 start end ≡ x
+  unfolding orElse
+  of-first start end f = rw (e, f)
+
+  module _ (f : v ≡ Missing) where
+    pub of-second : (start end : ℕ) → w ≡ At start end → found 2 start end ≡ x
+    unfolding orElse
+    of-second start end g = rw (e, f, g)
+
+    pub of-neither : w ≡ Missing → refusal 15 0 ≡ x
+    unfolding orElse
+    of-neither g = rw (e, f, g)
 
 -- What a lookup promises of an answer x, which is due.
 module _ (s t : List ℕ) (x : Lookup) where

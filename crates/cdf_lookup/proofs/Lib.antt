@@ -1,3 +1,2 @@
-pub mod Rooted
 pub mod Deciding
 pub mod Parting

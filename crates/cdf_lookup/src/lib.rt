@@ -5,41 +5,14 @@ ghost use lib.ListN.{length};
 ghost use Rattle.cdf_unit_prefix.specs.Layout.{layoutOf};
 ghost use Rattle.cdf_unit_prefix.specs.declared.Edition.the-variants.{First};
 ghost use Rattle.cdf_unit_list.specs.Units.{listing};
-ghost use Rattle.cdf_unit_list.specs.Check.{checkOf};
-ghost use Rattle.cdf_grammar.specs.Trees.{Forest};
-ghost use Rattle.cdf_grammar.specs.Encoding.{Stream};
 ghost use Rattle.cdf_lookup_spec.specs.Find.{refusal, found, isGroup};
 ghost use Rattle.cdf_lookup_spec.specs.Chosen.{streamOf};
 ghost use Rattle.cdf_lookup.specs.Answers.{due, Lends};
-ghost use Rattle.cdf_lookup.specs.Parts.{rootNumber};
-use cdf_check::Checked;
-use cdf_check::check;
-use cdf_lookup_search::search;
+use cdf_lookup_search::walk;
 use cdf_lookup_spec::Lookup;
 use cdf_lookup_spec::Value;
 use cdf_reader::first as first_unit;
 use cdf_unit_table::ER_GROUP;
-
-// What is wrong: a number and its offset; 0 if nothing is.
-struct Fault {
-    number: usize,
-    offset: usize,
-}
-
-// What the check says of s.
-fn fault_of(s: &[u8]) -> Fault
-    ensures number { λ r. ⌜ r .number ≡ checkOf (layoutOf First) (now (s .entry)) .number ⌝ }
-    ensures offset { λ r. ⌜ ((r .number ≡ 0 → ⊥) → r .offset ≡ checkOf (layoutOf First) (now (s .entry)) .value) ⌝ }
-    ensures tree { λ r. ⌜ (r .number ≡ 0 → ((t : Forest) × Stream (layoutOf First) (now (s .entry)) t)) ⌝ }
-{
-    match check(s) {
-        Checked::Accepted(_) => Fault {
-            number: 0,
-            offset: 0,
-        },
-        Checked::Refused { number, offset } => Fault { number, offset },
-    }
-}
 
 // Whether the root of s is an E/R group.
 pub fn is_group(s: &[u8]) -> bool
@@ -48,23 +21,6 @@ pub fn is_group(s: &[u8]) -> bool
     let a = first_unit(s);
     let root = a.handed.unit;
     root.id == ER_GROUP
-}
-
-// 7 if the root of either is none; else 0.
-fn root_fault(first: &[u8], second: &[u8]) -> Fault
-    ensures number { λ r. ⌜ r .number ≡ rootNumber (layoutOf First) (now (first .entry)) (now (second .entry)) ⌝ }
-    ensures offset { λ r. ⌜ r .offset ≡ 0 ⌝ }
-{
-    if is_group(first) & is_group(second) {
-        return Fault {
-            number: 0,
-            offset: 0,
-        };
-    }
-    Fault {
-        number: 7,
-        offset: 0,
-    }
 }
 
 fn refused(number: usize, offset: usize) -> Lookup
@@ -105,21 +61,24 @@ pub fn lookup_place(
     ensures is { λ r. ⌜ r ≡ due (first .entry) (second .entry) (template .entry) kind (key .entry) (field .entry) ⌝ }
     ensures within { λ r. ⌜ r .start + r .size ≤ length (streamOf (r .which) (now (first .entry)) (now (second .entry))) ⌝ }
 {
-    let one = fault_of(first);
-    let two = fault_of(second);
-    let root = root_fault(first, second);
+    let one = walk(first, template, kind, key, field);
     if one.number != 0 {
         return refused(one.number, one.offset);
     }
-    if two.number != 0 {
+    let two = walk(second, template, kind, key, field);
+    let accepted = two.number == 0;
+    let grouped = one.group & two.group;
+    if !accepted {
         return refused(two.number, two.offset);
     }
-    if root.number != 0 {
-        return refused(root.number, root.offset);
+    if !grouped {
+        return refused(7, 0);
     }
-    match search(first, template, kind, key, field) {
+    let value = one.value;
+    let other = two.value;
+    match value {
         Value::At { start, end } => found_in(1, start, end),
-        Value::Missing => match search(second, template, kind, key, field) {
+        Value::Missing => match other {
             Value::At { start, end } => found_in(2, start, end),
             Value::Missing => refused(15, 0),
         },

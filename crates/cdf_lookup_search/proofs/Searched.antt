@@ -1,27 +1,31 @@
--- A search keeps what it has found in the bytes, and at the end has what the definition says.
+-- A search keeps what it has found in the bytes, and at the end the walk has what the definitions say.
 use Prim.Native.Nat.{ℕ}
-use mathlib.Core.Path.{_≡_, sym, ap, _∙_}
-use mathlib.Core.Bool.{true, false≢true}
+use mathlib.Core.Path.{_≡_, refl, sym, ap, _∙_}
+use mathlib.Core.Bool.{Bool, true, false}
 use mathlib.Core.List.{List, []}
 use native.Mathlib.Omega.{arith}
-use lib.Dec.{ltb}
+use borrow.Author.Tests.{eqb-true, eqb-false}
+use lib.Dec.{eqb, ltb}
 use lib.ListN.{length}
 use Rattle.cdf_unit_table.specs.Ids.{template, field}
 use Rattle.cdf_unit_table.proofs.Bools.{of-cond, clash}
 use Rattle.cdf_unit_prefix.specs.Layout.{Layout}
 use Rattle.cdf_unit_list.specs.Units.{listing}
+use Rattle.cdf_unit_list.specs.Check.{checkOf}
 use Rattle.cdf_unit_list.specs.Ranks.{rankedUnits}
 use Rattle.cdf_unit_list.specs.declared.Unit.{Unit}
 use Rattle.cdf_unit_list.specs.declared.Ranked.{Ranked}
 use Rattle.cdf_reader_spec.specs.Calls.{Reply, nextOf}
-use Rattle.cdf_reader_runs.proofs.Folding.{unranked, Going, Turn, folded, over}
-use Rattle.cdf_lookup_spec.specs.Find.{Query, named, isThatKey}
-use Rattle.cdf_lookup_spec.specs.Search.{advanceOf, outcomeOf, isOver, searchOf}
+use Rattle.cdf_reader_runs.specs.Runs.{afterwards}
+use Rattle.cdf_reader_runs.proofs.Folding.{unranked, Going, Turn, over}
+use Rattle.cdf_lookup_spec.specs.Find.{Query, named, isThatKey, isGroup}
+use Rattle.cdf_lookup_spec.specs.Search.{advanceOf, outcomeOf, searchOf}
 use Rattle.cdf_lookup_spec.specs.declared.Search.{Search}
 use Rattle.cdf_lookup_spec.specs.declared.Search.the-variants.{Seeking, Named, Inside, Over}
 use Rattle.cdf_lookup_spec.specs.declared.Value.the-variants.{At, Missing}
-use Rattle.cdf_lookup_spec.proofs.Searching.{over-stays}
+use Rattle.cdf_lookup_spec.proofs.Choosing.{check-numbers}
 use Rattle.cdf_lookup_search.specs.Placed.{Lies, Placed}
+use Rattle.cdf_lookup_search.specs.Walking.{walkedOf}
 
 pub nowhere : (n : ℕ) → Placed n Missing
 nowhere n start end e = clash cc
@@ -62,21 +66,38 @@ module _ (l : Layout) (s : List ℕ) (q : Query) where
       pub keeps-place : Placed (length s) (outcomeOf state) → Placed (length s) (outcomeOf r)
       keeps-place p = rw e (placed-on (length s) state (a .handed .unit) lies-in p)
 
-  pub searched : (a : Reply) (state : Search) → Going seek l s Seeking a state → (a .number ≡ 0 → ⊥) →
+  searched : (a : Reply) (state : Search) → Going seek l s Seeking a state → (a .number ≡ 0 → ⊥) →
       outcomeOf state ≡ searchOf l s q
   unfolding searchOf rankedUnits
   searched a state g some =
       sym (ap outcomeOf (sym (unranked (advanceOf l s q) Seeking [] (listing l s .units)) ∙ over seek l s Seeking a state g some .all))
 
-  -- A search that is over has it already.
-  pub over-early : (a : Reply) (state : Search) → Going seek l s Seeking a state → isOver state ≡ true →
-      outcomeOf state ≡ searchOf l s q
-  unfolding searchOf rankedUnits
-  over-early a Seeking g e = absurd (false≢true e)
-  over-early a (Named end) g e = absurd (false≢true e)
-  over-early a (Inside end) g e = absurd (false≢true e)
-  over-early a (Over v) g e =
-      sym (ap outcomeOf
-      (sym (unranked (advanceOf l s q) Seeking [] (listing l s .units)) ∙ folded seek l s Seeking a (Over v) g
-      ∙ unranked (advanceOf l s q) (Over v) (g .before) (g .going .units))
-      ∙ over-stays l s q v (g .going .units))
+  -- Where the walk ends: with 1 the check accepts,
+  module _ (a : Reply) (state : Search) (g : Going seek l s Seeking a state) (group : Bool) (e : group ≡ isGroup (listing l s .units)) where
+    pub accepted : a .number ≡ 1 → record { number = 0; offset = 0; group = group; value = outcomeOf state } ≡ walkedOf l s q
+    unfolding walkedOf afterwards
+    accepted z = go (eqb (checkOf l s .number) 0) refl (over seek l s Seeking a state g (λ x. omega arith) .number)
+      where
+        go : (b : Bool) → eqb (checkOf l s .number) 0 ≡ b → a .number ≡ afterwards (checkOf l s) .number →
+            record { number = 0; offset = 0; group = group; value = outcomeOf state } ≡ walkedOf l s q
+        go true f n = rw (e, searched a state g (λ x. omega arith), eqb-true (checkOf l s .number) 0 f)
+        go false f n =
+            let same : a .number ≡ checkOf l s .number = rw f at n in
+            absurd (omega (arith, check-numbers l s (eqb-false (checkOf l s .number) 0 f)))
+
+    -- and with any other number it is the check's.
+    pub refused : (a .number ≡ 0 → ⊥) → (a .number ≡ 1 → ⊥) →
+        record { number = a .number; offset = a .offset; group = group; value = outcomeOf state } ≡ walkedOf l s q
+    unfolding walkedOf afterwards
+    refused some more =
+        let o = over seek l s Seeking a state g some in
+        go (eqb (checkOf l s .number) 0) refl (o .number) (o .offset)
+      where
+        go : (b : Bool) → eqb (checkOf l s .number) 0 ≡ b → a .number ≡ afterwards (checkOf l s) .number →
+            a .offset ≡ afterwards (checkOf l s) .offset →
+            record { number = a .number; offset = a .offset; group = group; value = outcomeOf state } ≡ walkedOf l s q
+        go true f n k = absurd (more (rw f at n))
+        go false f n k =
+            let number : a .number ≡ checkOf l s .number = rw f at n in
+            let offset : a .offset ≡ checkOf l s .value = rw f at k in
+            rw (e, searched a state g some, number, offset, f)

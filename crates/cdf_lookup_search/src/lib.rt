@@ -1,4 +1,4 @@
-// The search of the lookup: what one pass over the units of a stream finds.
+// The walk of the lookup: what one pass over the units of a stream tells and finds.
 ghost use Prim.Native.Nat.{_+_, _≤_};
 ghost use mathlib.Core.Path.{_≡_};
 ghost use mathlib.Core.Option.{some};
@@ -6,16 +6,27 @@ ghost use lib.ListN.{length};
 ghost use Rattle.cdf_unit_prefix.specs.Layout.{layoutOf, prefixOf};
 ghost use Rattle.cdf_unit_prefix.specs.declared.Edition.the-variants.{First};
 ghost use Rattle.cdf_lookup_spec.specs.Find.{query, sameBytes, reads, valueOf};
-ghost use Rattle.cdf_lookup_spec.specs.Search.{advanceOf, outcomeOf, isOver, searchOf};
+ghost use Rattle.cdf_lookup_spec.specs.Search.{advanceOf, outcomeOf};
 ghost use Rattle.cdf_lookup_search.specs.Placed.{Lies, Placed};
+ghost use Rattle.cdf_lookup_search.specs.Walking.{walkedOf};
 use cdf_lookup_spec::Search;
 use cdf_lookup_spec::Value;
 use cdf_reader::first as first_unit;
 use cdf_unit_list::Unit;
 use cdf_unit_prefix::Edition;
 use cdf_unit_prefix::prefix;
+use cdf_unit_table::ER_GROUP;
 use cdf_unit_table::FIELD;
 use cdf_unit_table::TEMPLATE;
+
+// What a walk over a stream tells: the check's number and its offset, 0 and 0 for an accepted one; whether the root is an E/R group; and where
+// the value stands.
+pub struct Walked {
+    pub number: usize,
+    pub offset: usize,
+    pub group: bool,
+    pub value: Value,
+}
 
 fn same(a: &[u8], b: &[u8]) -> bool
     ensures { λ r. ⌜ r ≡ sameBytes (now (a .entry)) (now (b .entry)) ⌝ }
@@ -107,33 +118,34 @@ fn outcome(state: Search) -> Value
     }
 }
 
-// Whether no further unit matters.
-fn is_over(state: Search) -> bool
-    ensures { λ r. ⌜ r ≡ isOver state ⌝ }
-{
-    match state {
-        Search::Seeking => false,
-        Search::Named(_) => false,
-        Search::Inside(_) => false,
-        Search::Over(_) => true,
-    }
-}
-
-// Searches s, unit by unit: a start and nexts until it is over.
-pub fn search(s: &[u8], template: &[u8], kind: usize, key: &[u8], field: &[u8]) -> Value
-    ensures is { λ r. ⌜ r ≡ searchOf (layoutOf First) (now (s .entry)) (query (now (template .entry)) kind (now (key .entry)) (now (field .entry))) ⌝ }
-    ensures placed { λ r. ⌜ Placed (length (now (s .entry))) r ⌝ }
+// Walks over s to its end, a start and nexts until one hands out no unit: what the check says of s, its root, and what a search finds.
+pub fn walk(s: &[u8], template: &[u8], kind: usize, key: &[u8], field: &[u8]) -> Walked
+    ensures is { λ r. ⌜ r ≡ walkedOf (layoutOf First) (now (s .entry)) (query (now (template .entry)) kind (now (key .entry)) (now (field .entry))) ⌝ }
+    ensures placed { λ r. ⌜ Placed (length (now (s .entry))) (r .value) ⌝ }
 {
     let mut a = first_unit(s);
+    let root = a.handed.unit;
+    let group = root.id == ER_GROUP;
     let mut state = Search::Seeking;
     while a.number == 0 {
         let unit = a.handed.unit;
         state = advance(Edition::First, s, state, unit, template, kind, key, field);
-        if is_over(state) {
-            return outcome(state);
-        }
         let p = a.place;
         a = p.advance(s);
     }
-    outcome(state)
+    let value = outcome(state);
+    if a.number == 1 {
+        return Walked {
+            number: 0,
+            offset: 0,
+            group,
+            value,
+        };
+    }
+    Walked {
+        number: a.number,
+        offset: a.offset,
+        group,
+        value,
+    }
 }

@@ -1,5 +1,5 @@
 -- What a lookup answers, in the words of the claims.
-use Prim.Native.Nat.{ℕ, _-_}
+use Prim.Native.Nat.{ℕ, _-_, _≤_}
 use mathlib.Core.Path.{_≡_, refl, sym, _∙_}
 use mathlib.Core.Bool.{Bool, not, _&&_}
 use mathlib.Core.List.{List}
@@ -24,15 +24,22 @@ use Rattle.cdf_lookup_spec.specs.declared.Value.the-variants.{At, Missin
 use Rattle.cdf_lookup_spec.specs.declared.Lookup.{Lookup}
 use Rattle.cdf_lookup_spec.proofs.Telling.{first-some, first-none, some-first, asked-tells, field-tells}
 
--- The check's numbers are below 11, and none is 15.
-check-below : (l : Layout) (s : List ℕ) → checkOf l s .number ≡ 15 → ⊥
+-- The check's numbers are 0 and 3 to 10,
+abbrev OfCheck : ℕ → Type 0
+OfCheck n = (n ≡ 0 → ⊥) → (3 ≤ n) × (n ≤ 10)
+
+pub check-numbers : (l : Layout) (s : List ℕ) → OfCheck (checkOf l s .number)
 unfolding checkOf answer
-check-below l s e = go (listing l s .end) refl e
+check-numbers l s = go (listing l s .end) refl
   where
-    go : (x : End) → listing l s .end ≡ x → answerOf (length (listing l s .units)) x .number ≡ 15 → ⊥
-    go unfinished q e = proved .finishes l s q
-    go ended q e = omega arith
-    go (fault n at) q e = omega (arith, proved .numbered l s q)
+    go : (x : End) → listing l s .end ≡ x → OfCheck (answerOf (length (listing l s .units)) x .number)
+    go unfinished q other = absurd (proved .finishes l s q)
+    go ended q other = absurd (other refl)
+    go (fault n at) q other = proved .numbered l s q
+
+-- and none is 15.
+check-below : (l : Layout) (s : List ℕ) → checkOf l s .number ≡ 15 → ⊥
+check-below l s e = omega (arith, check-numbers l s (λ z. omega arith))
 
 -- What holds of a refusal that is not 15, of a value of each stream and of 15 holds of the answer.
 module _ (l : Layout) (s t : List ℕ) (q : Query) where

@@ -82,7 +82,7 @@ module _ (l : Layout) (s : List ℕ) (q : Query) where
   key-no-template k e = key-other k template (k .own) (q .template) e (λ z. omega arith) (λ z. omega arith)
 
   -- Once it is over nothing changes.
-  pub over-stays : (v : Value) (us : List Unit) → outcomeOf (foldl (advanceOf l s q) (Over v) us) ≡ v
+  over-stays : (v : Value) (us : List Unit) → outcomeOf (foldl (advanceOf l s q) (Over v) us) ≡ v
   unfolding advanceOf
   over-stays v [] = refl
   over-stays v (u ∷ us) = over-stays v us

@@ -1,6 +1,6 @@
 -- The same by one pass over the units: what the search below the lookup promises. No claim and no promise of the lookup cites this file.
 use Prim.Native.Nat.{ℕ}
-use mathlib.Core.Bool.{Bool, true, false, cond}
+use mathlib.Core.Bool.{cond}
 use mathlib.Core.List.{List, foldl}
 use lib.Dec.{ltb}
 use Rattle.cdf_unit_table.specs.Ids.{template, field}
@@ -28,13 +28,6 @@ outcomeOf Seeking = Missing
 outcomeOf (Named end) = Missing
 outcomeOf (Inside end) = Missing
 outcomeOf (Over value) = value
-
--- It is over before the units are.
-abbrev pub isOver : Search → Bool
-isOver Seeking = false
-isOver (Named end) = false
-isOver (Inside end) = false
-isOver (Over value) = true
 
 unfoldable pub searchOf : Layout → List ℕ → Query → Value
 unfolding advanceOf listing

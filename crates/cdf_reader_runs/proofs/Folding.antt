@@ -57,11 +57,6 @@ module _ {A : Type 0} (fold : A → Ranked → A) (l : Layout) (s : List ℕ) (n
   pub begun : (a : Reply) → a ≡ firstOf l s → Going a none
   begun a e = record { before = []; going = loop.begun l s a e; has = refl }
 
-  -- The fold of all units, from this one on.
-  pub folded : (a : Reply) (h : A) (g : Going a h) → foldl fold none (rankedUnits l s) ≡ foldl fold h (ranked (g .before) (g .going .units))
-  unfolding rankedUnits
-  folded a h g = rw (g .going .all, g .has) (gather-on (g .before) (g .going .units))
-
   -- A unit was handed out: it lies in the bytes, the place behind it fits, and it is folded in.
   pub record Turn (a : Reply) (h : A) : Type 0 where
     pub own : a .handed .unit .start + prefixOf l ≤ a .handed .unit .own

@@ -3,7 +3,7 @@ use borrow.Author.Needs.{needs}
 use Rattle.cdf_unit_prefix.specs.Layout.{layoutOf}
 use Rattle.cdf_unit_prefix.specs.declared.Edition.the-variants.{First}
 use Rattle.cdf_reader.specs.View.{replyOf}
-use Rattle.cdf_lookup.proofs.Rooted.{group-is}
+use Rattle.cdf_lookup_search.proofs.Rooted.{group-is}
 use Rattle.cdf_lookup.proofs.is_group.Statement.{statement}
 use Rattle.cdf_lookup.proofs.is_group.Tie as tie
 

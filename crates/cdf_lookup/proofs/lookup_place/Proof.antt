@@ -1,118 +1,121 @@
--- By the stages of the definition. `asks` is where the three questions have been asked, `both` where neither stream is refused.
+-- By the stages of the definition. `one` is where the first stream has been walked over, `two` where both have, `both` where neither is refused.
 use Prim.Native.Nat.{ℕ}
-use mathlib.Core.Path.{_≡_, sym, _∙_}
+use mathlib.Core.Path.{_≡_, refl}
+use mathlib.Core.Bool.{false, not, _&&_}
 use mathlib.Core.List.{List}
 use borrow.Author.Needs.{needs}
-use Rattle.cdf_unit_prefix.specs.Layout.{Layout, layoutOf}
+use borrow.Author.Tests.{eqb-true, eqb-false, not-true, not-false}
+use lib.Dec.{eqb}
+use Rattle.cdf_unit_prefix.specs.Layout.{layoutOf}
 use Rattle.cdf_unit_prefix.specs.declared.Edition.the-variants.{First}
+use Rattle.cdf_check.proofs.Exact.{bytes-of}
 use Rattle.cdf_lookup_spec.specs.Find.{Query, query, refusal, orElse, lookupOf}
-use Rattle.cdf_lookup_spec.specs.Search.{searchOf}
 use Rattle.cdf_lookup_spec.specs.declared.Lookup.{Lookup}
-use Rattle.cdf_lookup.proofs.Deciding.{by-first, by-second, by-root, by-search, refuses, finds}
+use Rattle.cdf_lookup.proofs.Deciding.{by-first, by-second, by-roots, by-values, of-first, of-second, of-neither, refuses, finds}
 use Rattle.cdf_lookup.proofs.lookup_place.Statement.{statement}
 use Rattle.cdf_lookup.proofs.lookup_place.Tie as tie
 
-abbrev l : Layout
-l = layoutOf First
+-- The streams' bytes are known, and what is asked for.
+abbrev known : tie.After-walk → tie.After-shared-slice-known2
+known one = one .before .before .before .before
 
-abbrev entry : tie.After-root-fault → tie.Start
-entry asks = asks .before .before .before .before .before .before .before .before
+abbrev entry : tie.After-walk → tie.Start
+entry one = known one .before .before
 
-abbrev one : tie.After-root-fault → List ℕ
-one asks = entry asks .args .first .now
+abbrev s : tie.After-walk → List ℕ
+s one = entry one .args .first .now
 
-abbrev two : tie.After-root-fault → List ℕ
-two asks = entry asks .args .second .now
+abbrev t : tie.After-walk → List ℕ
+t one = entry one .args .second .now
 
-abbrev asked : tie.After-root-fault → Query
-asked asks = let a = entry asks .args in query (a .template .now) (a .kind) (a .key .now) (a .field .now)
+abbrev asked : tie.After-walk → Query
+asked one = let a = entry one .args in query (a .template .now) (a .kind) (a .key .now) (a .field .now)
 
-abbrev due : tie.After-root-fault → Lookup
-due asks = lookupOf l (one asks) (two asks) (asked asks)
+abbrev due : tie.After-walk → Lookup
+due one = lookupOf (layoutOf First) (s one) (t one) (asked one)
 
--- Where neither stream is refused: the answer is that of the searches.
-abbrev both-asked : tie.Else3 → tie.After-root-fault
-both-asked both = both .before .before .before .before .before .before
+abbrev first : tie.After-walk2 → tie.After-walk
+first two = two .before .before .before
+
+-- The test of the second stream's number.
+accepted : (n : ℕ) → not (eqb n 0) ≡ false → n ≡ 0
+accepted n e = eqb-true n 0 (not-false (eqb n 0) e)
+
+-- Where neither stream is refused, and both roots are E/R groups: the answer is that of the walks.
+abbrev walked : tie.Else3 → tie.After-walk2
+walked both = both .before .before .before .before .before
 
 settled : (both : tie.Else3) →
-    let asks = both-asked both in
-    due asks
-    ≡ orElse 1 (searchOf l (one asks) (asked asks)) (orElse 2 (searchOf l (two asks) (asked asks)) (refusal 15 0))
+    let two = walked both in
+    let one = first two in
+    due one ≡ orElse 1 (one .walk .result .value) (orElse 2 (two .walk2 .result .value) (refusal 15 0))
 settled both =
-    let asks = both-asked both in
-    let told = asks .before .before .fault-of .ensures in
-    let told2 = asks .before .fault-of2 .ensures in
-    let a = both .before .before .before .before .if1 .left in
-    let b = both .before .before .if2 .left in
-    by-search First (one asks) (two asks) (asked asks) (told .1 .1 a) (told2 .1 .1 b) (sym (told .0) ∙ a) (sym (told2 .0) ∙ b)
-    (sym (asks .root-fault .ensures .0) ∙ both .if3 .left)
+    let two = walked both in
+    let one = first two in
+    by-values First (s one) (t one) (asked one) (one .walk .result) (two .walk2 .result) (one .walk .ensures .0) (two .walk2 .ensures .0)
+    (two .before .if1 .left) (accepted (two .walk2 .result .number) (both .before .if2 .left))
+    (bytes-of (s one) (λ i. known one .before .shared-slice-known .given i .fits))
+    (bytes-of (t one) (λ i. known one .shared-slice-known2 .given i .fits))
+    (not-false (one .walk .result .group && two .walk2 .result .group) (both .if3 .left))
 
-fault-of-requires : tie.Need-fault-of-requires
-fault-of-requires c κs = search needs
-
-fault-of-requires-2 : tie.Need-fault-of-requires-2
-fault-of-requires-2 c κs = search needs
-
-root-fault-requires : tie.Need-root-fault-requires
-root-fault-requires c κs = search needs
+walk-requires : tie.Need-walk-requires
+walk-requires c κs = search needs
 
 refused-requires : tie.Need-refused-requires
 refused-requires c κs = search needs
 
 returns : tie.Need-returns
 returns c =
-    let asks = c .before .before .before in
-    let told = asks .before .before .fault-of .ensures in
-    let some = c .before .if1 .taken in
-    refuses (one asks) (two asks) (due asks) _ _ _ (c .refused .ensures)
-    (by-first l (one asks) (two asks) (asked asks) _ _ (told .0) (told .1 .0 some) some)
+    let one = c .before .before .before in
+    refuses (s one) (t one) (due one) _ _ _ (c .refused .ensures)
+    (by-first First (s one) (t one) (asked one) (one .walk .result) _ (one .walk .ensures .0) refl (c .before .if1 .taken))
+
+walk-requires-2 : tie.Need-walk-requires-2
+walk-requires-2 c κs = search needs
 
 refused-requires-2 : tie.Need-refused-requires-2
 refused-requires-2 c κs = search needs
 
 returns-2 : tie.Need-returns-2
 returns-2 c =
-    let here = c .before .before .before in
-    let asks = here .before .before in
-    let told = asks .before .before .fault-of .ensures in
-    let told2 = asks .before .fault-of2 .ensures in
-    let some = c .before .if2 .taken in
-    refuses (one asks) (two asks) (due asks) _ _ _ (c .refused2 .ensures)
-    (by-second l (one asks) (two asks) (asked asks) (sym (told .0) ∙ here .if1 .left) _ _ (told2 .0) (told2 .1 .0 some) some)
+    let two = c .before .before .before .before .before in
+    let one = first two in
+    let n = two .walk2 .result .number in
+    refuses (s one) (t one) (due one) _ _ _ (c .refused2 .ensures)
+    (by-second First (s one) (t one) (asked one) (one .walk .result) (two .walk2 .result) (one .walk .ensures .0) (two .walk2 .ensures .0)
+    (two .before .if1 .left) (eqb-false n 0 (not-true (eqb n 0) (c .before .if2 .taken))))
 
 refused-requires-3 : tie.Need-refused-requires-3
 refused-requires-3 c κs = search needs
 
 returns-3 : tie.Need-returns-3
 returns-3 c =
-    let here = c .before .before .before in
-    let asks = here .before .before .before .before in
-    let told = asks .before .before .fault-of .ensures in
-    let told2 = asks .before .fault-of2 .ensures in
-    refuses (one asks) (two asks) (due asks) _ _ _ (c .refused3 .ensures)
-    (by-root l (one asks) (two asks) (asked asks) (sym (told .0) ∙ here .before .before .if1 .left) (sym (told2 .0) ∙ here .if2 .left) _ _
-    (asks .root-fault .ensures .0) (asks .root-fault .ensures .1) (c .before .if3 .taken))
+    let past = c .before .before in
+    let two = past .before .before .before .before in
+    let one = first two in
+    refuses (s one) (t one) (due one) _ _ _ (c .refused3 .ensures)
+    (by-roots First (s one) (t one) (asked one) (one .walk .result) (two .walk2 .result) (one .walk .ensures .0) (two .walk2 .ensures .0)
+    (two .before .if1 .left) (accepted (two .walk2 .result .number) (past .if2 .left))
+    (not-true (one .walk .result .group && two .walk2 .result .group) (c .before .if3 .taken)))
 
-search-requires : tie.Need-search-requires
-search-requires c κs = search needs
-
-enum-known-start : tie.Need-enum-known-start
-enum-known-start c = search needs
+enum-known-value : tie.Need-enum-known-value
+enum-known-value c = search needs
 
 found-in-requires : tie.Need-found-in-requires
-found-in-requires c κs = c .before .before .before .search .ensures .1 _ _ (c .before .start .given .1) .0
+found-in-requires c κs =
+    let one = first (walked (c .before .before .before)) in
+    one .walk .ensures .1 _ _ (c .before .value .given .1) .0
 
 enum-told : tie.Need-enum-told
 enum-told c = search needs
 
-search-requires-2 : tie.Need-search-requires-2
-search-requires-2 c κs = search needs
-
-enum-known-start-2 : tie.Need-enum-known-start-2
-enum-known-start-2 c = search needs
+enum-known-other : tie.Need-enum-known-other
+enum-known-other c = search needs
 
 found-in-requires-2 : tie.Need-found-in-requires-2
-found-in-requires-2 c κs = c .before .before .before .search2 .ensures .1 _ _ (c .before .start2 .given .1) .0
+found-in-requires-2 c κs =
+    let two = walked (c .before .before .before .before .before) in
+    two .walk2 .ensures .1 _ _ (c .before .other .given .1) .0
 
 enum-told-2 : tie.Need-enum-told-2
 enum-told-2 c = search needs
@@ -121,57 +124,45 @@ refused-requires-4 : tie.Need-refused-requires-4
 refused-requires-4 c κs = search needs
 
 returns-4 : tie.Need-returns-4
-unfolding orElse
 returns-4 c =
-    let told = c .before .before .before .before .search .ensures in
-    let is = c .before .before .start .given .1 in
-    let both = c .before .before .before .before .before in
-    let asks = both-asked both in
-    finds (one asks) (two asks) (due asks) _ 1 _ _ (c .found-in .ensures) (rw (settled both, ← told .0, is)) (told .1 _ _ is)
+    let is = c .before .before .value .given .1 in
+    let both = c .before .before .before .before in
+    let one = first (walked both) in
+    finds (s one) (t one) (due one) _ 1 _ _ (c .found-in .ensures) (of-first _ _ _ (settled both) _ _ is) (one .walk .ensures .1 _ _ is)
 
 returns-5 : tie.Need-returns-5
-unfolding orElse
 returns-5 c =
-    let here = c .before .before .before .before in
-    let told = here .search2 .ensures in
-    let is = c .before .before .start2 .given .1 in
-    let missing = here .before .enum-told .given .1 in
-    let searched = here .before .before .before in
-    let both = searched .before in
-    let asks = both-asked both in
-    finds (one asks) (two asks) (due asks) _ 2 _ _ (c .found-in2 .ensures)
-    (rw (settled both, ← searched .search .ensures .0, missing, ← told .0, is)) (told .1 _ _ is)
+    let is = c .before .before .other .given .1 in
+    let missing = c .before .before .before .before in
+    let both = missing .before .before in
+    let one = first (walked both) in
+    finds (s one) (t one) (due one) _ 2 _ _ (c .found-in2 .ensures) (of-second _ _ _ (settled both) (missing .enum-told .given .1) _ _ is)
+    (walked both .walk2 .ensures .1 _ _ is)
 
 returns-6 : tie.Need-returns-6
-unfolding orElse
 returns-6 c =
-    let here = c .before .before .before in
-    let missing = here .before .enum-told .given .1 in
-    let searched = here .before .before .before in
-    let both = searched .before in
-    let asks = both-asked both in
-    refuses (one asks) (two asks) (due asks) _ _ _ (c .refused4 .ensures)
-    (rw (settled both, ← searched .search .ensures .0, missing, ← here .search2 .ensures .0, c .before .enum-told2 .given .1))
+    let missing = c .before .before .before in
+    let both = missing .before .before in
+    let one = first (walked both) in
+    refuses (s one) (t one) (due one) _ _ _ (c .refused4 .ensures)
+    (of-neither _ _ _ (settled both) (missing .enum-told .given .1) (c .before .enum-told2 .given .1))
 
 pub lookup-place-spec : {M : Type 1} → statement M
 lookup-place-spec =
     tie.close
     (tie.spec
-    fault-of-requires
-    fault-of-requires-2
-    root-fault-requires
+    walk-requires
     refused-requires
     returns
+    walk-requires-2
     refused-requires-2
     returns-2
     refused-requires-3
     returns-3
-    search-requires
-    enum-known-start
+    enum-known-value
     found-in-requires
     enum-told
-    search-requires-2
-    enum-known-start-2
+    enum-known-other
     found-in-requires-2
     enum-told-2
     refused-requires-4

@@ -1,6 +1,6 @@
 -- The units are folded as they come, and what was found lies in the bytes. `turn` is the head of the loop, `step` where a unit was folded in.
 use Prim.Native.Nat.{ℕ, _≤_}
-use mathlib.Core.Path.{_≡_, sym, _∙_}
+use mathlib.Core.Path.{_≡_, _∙_}
 use mathlib.Core.List.{List}
 use borrow.Author.Needs.{needs}
 use lib.ListN.{length}
@@ -15,29 +15,33 @@ use Rattle.cdf_lookup_spec.specs.Find.{Query, query}
 use Rattle.cdf_lookup_spec.specs.Search.{outcomeOf}
 use Rattle.cdf_lookup_spec.specs.declared.Search.the-variants.{Seeking}
 use Rattle.cdf_lookup_search.specs.Placed.{Placed}
-use Rattle.cdf_lookup_search.proofs.Searched.{nowhere, seek, lies-in, goes-on, keeps-place, searched, over-early}
-use Rattle.cdf_lookup_search.proofs.search.Statement.{statement}
-use Rattle.cdf_lookup_search.proofs.search.Tie as tie
+use Rattle.cdf_lookup_search.proofs.Rooted.{group-is}
+use Rattle.cdf_lookup_search.proofs.Searched.{nowhere, seek, lies-in, goes-on, keeps-place, accepted, refused}
+use Rattle.cdf_lookup_search.proofs.walk.Statement.{statement}
+use Rattle.cdf_lookup_search.proofs.walk.Tie as tie
 
 abbrev l : Layout
 l = layoutOf First
 
 abbrev Inv-loop : tie.InvT-loop
-Inv-loop s template kind key field a₀ state₀ a state =
+Inv-loop s template kind key field a₀ group state₀ a state =
     Going (seek l s (query template kind key field)) l s Seeking (replyOf a) state
     × (a .number ≡ 0 → a .place .position ≤ length s)
     × Placed (length s) (outcomeOf state)
 
 abbrev μ-loop : tie.MeasureT-loop
-μ-loop s template kind key field a₀ state₀ a state = ahead l s (a .number) (a .place .position)
+μ-loop s template kind key field a₀ group state₀ a state = ahead l s (a .number) (a .place .position)
 
--- The bytes and what is asked for, at the head of the loop.
+-- Where the start has been made, the bytes and what is asked for, at the head of the loop.
+abbrev begin : tie.At-loop Inv-loop μ-loop → tie.After-first Inv-loop μ-loop
+begin turn = turn .before .before .before
+
 abbrev bytes : tie.At-loop Inv-loop μ-loop → List ℕ
-bytes turn = turn .before .before .before .before .before .before .args .s .now
+bytes turn = begin turn .before .before .before .before .before .args .s .now
 
 abbrev asked : tie.At-loop Inv-loop μ-loop → Query
 asked turn =
-    let a = turn .before .before .before .before .before .before .args in
+    let a = begin turn .before .before .before .before .before .args in
     query (a .template .now) (a .kind) (a .key .now) (a .field .now)
 
 -- The unit in hand lies in the bytes, and the loop goes on from it.
@@ -68,9 +72,10 @@ first-requires c κs = search needs
 
 loop-holds : tie.Need-loop-holds Inv-loop μ-loop
 loop-holds c =
-    let s = c .before .before .before .before .before .args .s .now in (
-      begun _ l s Seeking (replyOf (c .first .result)) (c .first .ensures .0),
-      (λ z. (rw (← c .first .ensures .0) at (first-later l s)) z .1),
+    let start = c .before .before in
+    let s = start .before .before .before .before .before .args .s .now in (
+      begun _ l s Seeking (replyOf (start .first .result)) (start .first .ensures .0),
+      (λ z. (rw (← start .first .ensures .0) at (first-later l s)) z .1),
       nowhere (length s),
     )
 
@@ -79,59 +84,58 @@ advance-requires c κs =
     let turn = c .before .before .before in
     lies-in l (bytes turn) (asked turn) (replyOf (turn .loop .a)) (turn .loop .state) (in-hand turn (c .before .if1 .taken))
 
-is-over-requires : tie.Need-is-over-requires Inv-loop μ-loop
-is-over-requires c κs = search needs
-
-outcome-requires : tie.Need-outcome-requires Inv-loop μ-loop
-outcome-requires c κs = search needs
-
-returns : tie.Need-returns Inv-loop μ-loop
-returns c =
-    let step = c .before .before .before in
-    let over = sym (c .before .before .is-over .ensures) ∙ c .before .if2 .taken in
-    let is = c .outcome .ensures in
-    (is ∙ over-early l (bytes (head step)) (asked (head step)) _ _ (on step) over, rw is (placed step))
-
 advance-requires-2 : tie.Need-advance-requires-2 Inv-loop μ-loop
 advance-requires-2 c κs = search needs
 
 -- The place fits, so a step from it is NEXT.
 next : (c : tie.After-advance2 Inv-loop μ-loop) →
-    let turn = head (c .before .before .before .before) in
+    let turn = head (c .before .before) in
     replyOf (c .advance2 .result) ≡ nextOf l (bytes turn) (view (turn .loop .a .place))
-next c =
-    let step = c .before .before .before .before in
-    c .advance2 .ensures .0 ∙ proved .advances _ _ _ (in-hand (head step) (taken step) .fit)
+next c = let step = c .before .before in c .advance2 .ensures .0 ∙ proved .advances _ _ _ (in-hand (head step) (taken step) .fit)
 
 loop-less : tie.Need-loop-less Inv-loop μ-loop
 loop-less c =
-    let step = c .before .before .before .before in
+    let step = c .before .before in
     let turn = head step in
     less l (bytes turn) _ _ (replyOf (c .advance2 .result)) (taken step) (turn .loop .inv .1 (taken step))
     (rw (← next c) at (next-later l (bytes turn) (view (turn .loop .a .place))))
 
 loop-again : tie.Need-loop-again Inv-loop μ-loop
 loop-again c =
-    let step = c .before .before .before .before in
+    let step = c .before .before in
     let turn = head step in (
       rw (next c) (on step),
       (λ z. (rw (← next c) at (next-later l (bytes turn) (view (turn .loop .a .place)))) z .1),
       placed step,
     )
 
-outcome-requires-2 : tie.Need-outcome-requires-2 Inv-loop μ-loop
-outcome-requires-2 c κs = search needs
+outcome-requires : tie.Need-outcome-requires Inv-loop μ-loop
+outcome-requires c κs = search needs
 
-returns-2 : tie.Need-returns-2 Inv-loop μ-loop
-returns-2 c =
-    let turn = c .before .before .before in
-    let is = c .outcome2 .ensures in (
-      is ∙ searched l (bytes turn) (asked turn) (replyOf (turn .loop .a)) (turn .loop .state) (turn .loop .inv .0) (c .before .if1 .left),
+returns : tie.Need-returns Inv-loop μ-loop
+returns c =
+    let end = c .before .before in
+    let turn = end .before .before .before in
+    let is = end .outcome .ensures in
+    let group = group-is l (bytes turn) (replyOf (begin turn .first .result)) (begin turn .first .ensures .0) in (
+      rw is (accepted l (bytes turn) (asked turn) (replyOf (turn .loop .a)) (turn .loop .state) (turn .loop .inv .0) _ group (c .if2 .taken)),
       rw is (turn .loop .inv .2),
     )
 
-pub search-spec : {M : Type 1} → statement M
-search-spec =
+returns-2 : tie.Need-returns-2 Inv-loop μ-loop
+returns-2 c =
+    let end = c .before .before in
+    let turn = end .before .before .before in
+    let is = end .outcome .ensures in
+    let group = group-is l (bytes turn) (replyOf (begin turn .first .result)) (begin turn .first .ensures .0) in (
+      rw is
+          (refused l (bytes turn) (asked turn) (replyOf (turn .loop .a)) (turn .loop .state) (turn .loop .inv .0) _ group (end .before .if1 .left)
+          (c .if2 .left)),
+      rw is (turn .loop .inv .2),
+    )
+
+pub walk-spec : {M : Type 1} → statement M
+walk-spec =
     tie.close
     (tie.spec
     Inv-loop
@@ -139,11 +143,9 @@ search-spec =
     first-requires
     loop-holds
     advance-requires
-    is-over-requires
-    outcome-requires
-    returns
     advance-requires-2
     loop-less
     loop-again
-    outcome-requires-2
+    outcome-requires
+    returns
     returns-2)
