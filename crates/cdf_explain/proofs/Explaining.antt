@@ -8,16 +8,15 @@ use Rattle.cdf_unit_prefix.specs.Layout.{Layout}
 use Rattle.cdf_unit_list.specs.Units.{End, fault, listing}
 use Rattle.cdf_unit_list.specs.Stack.{Step}
 use Rattle.cdf_unit_list.specs.declared.Unit.{Unit}
+use Rattle.cdf_unit_list.specs.declared.Open.{Open}
 use Rattle.cdf_unit_list.proofs.Proved.{proved}
 use Rattle.cdf_reader_spec.specs.Place.{ReaderPlace, every}
 use Rattle.cdf_reader_spec.specs.Calls.{Reply, stepped}
-use Rattle.cdf_reader_spec.specs.Closing.{unclosed, closedAt}
+use Rattle.cdf_reader_spec.specs.Closing.{unclosed}
 use Rattle.cdf_reader_spec.specs.Slots.{openUnits}
 use Rattle.cdf_reader_spec.proofs.Fitting.{fitting}
 use Rattle.cdf_reader_spec.proofs.Opened.{at-most-four}
 use Rattle.cdf_reader_runs.proofs.Looping.{Stands, Stops, at-end, at-fault, Over}
-use Rattle.cdf_reader.specs.View.{view}
-use Rattle.cdf_reader.specs.declared.Place.{Place}
 use Rattle.cdf_reader_spec.proofs.Counted.{length-open}
 use Rattle.cdf_explain_spec.specs.Why.{nothingWrong, openAround, whyAfter, whyOf}
 use Rattle.cdf_explain_spec.proofs.Stands.{why-after}
@@ -69,12 +68,6 @@ module _ (l : Layout) (s : List ℕ) where
   pub told-end : (before : List Unit) (a : Reply) → Over l s before a → Told a
   told-end before a o = rw (o .is) (told-over before (o .all) (o .stops) refl (o .place) (o .stands))
 
--- The units of a place in which those that end there are closed.
-pub closed-units : (q p : Place) → view q ≡ closedAt (view p) →
-    openUnits (q .count) (q .top) (q .o1) (q .o2) (q .o3) ≡ unclosed (view p .units) (p .position)
-unfolding closedAt
-closed-units q p e = ap (λ (r : ReaderPlace). r .units) e
-
-pub closed-few : (q p : Place) → view q ≡ closedAt (view p) → length (unclosed (view p .units) (p .position)) ≤ 4 → q .count ≤ 4
-closed-few q p e few =
-    omega (arith, ap length (closed-units q p e), length-open (q .count) (q .top) (q .o1) (q .o2) (q .o3))
+-- So many are left.
+pub closed-few : (count : ℕ) (top o1 o2 o3 : Open) (os : List Open) → openUnits count top o1 o2 o3 ≡ os → length os ≤ 4 → count ≤ 4
+closed-few count top o1 o2 o3 os e few = omega (arith, ap length e, length-open count top o1 o2 o3)

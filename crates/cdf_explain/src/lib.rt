@@ -7,10 +7,12 @@ ghost use Rattle.cdf_reader_spec.specs.Slots.{openUnits};
 ghost use Rattle.cdf_explain_spec.specs.Why.{whyOf};
 ghost use Rattle.cdf_explain.specs.Numbers.{explainedBy};
 ghost use Rattle.cdf_explain.specs.Parts.{level, maysAt, choicesOf, toldAt};
-use cdf_reader::Place;
-use cdf_reader::first;
+use cdf_reader_advance::advance;
+use cdf_reader_close::close;
 use cdf_reader_close::no_open;
+use cdf_reader_cursor::first_as;
 use cdf_unit_list::Open;
+use cdf_unit_prefix::Edition;
 use cdf_unit_states::unit_of;
 use cdf_unit_table::IDS_END;
 use cdf_unit_table::STREAM;
@@ -76,16 +78,19 @@ fn admitted(count: usize, state: usize) -> Choices
     Choices { count: found, ids }
 }
 
-// The answer at a place, once what is complete and ends there is closed.
-fn tell(number: usize, offset: usize, p: Place) -> Explained
-    requires { ⌜ p .count ≤ 4 ⌝ }
-    ensures { λ r. ⌜ r ≡ toldAt number offset (openUnits (p .count) (p .top) (p .o1) (p .o2) (p .o3)) ⌝ }
+// The answer where these units are open, once those that are complete and end there are closed.
+fn tell(
+    number: usize,
+    offset: usize,
+    count: usize,
+    top: Open,
+    o1: Open,
+    o2: Open,
+    o3: Open,
+) -> Explained
+    requires { ⌜ count ≤ 4 ⌝ }
+    ensures { λ r. ⌜ r ≡ toldAt number offset (openUnits count top o1 o2 o3) ⌝ }
 {
-    let top = p.top;
-    let o1 = p.o1;
-    let o2 = p.o2;
-    let o3 = p.o3;
-    let count = p.count;
     let first = at_level(1, count, top, o1);
     let second = at_level(2, count, top, o2);
     let third = at_level(3, count, top, o3);
@@ -113,10 +118,10 @@ fn tell(number: usize, offset: usize, p: Place) -> Explained
 pub fn explain(s: &[u8]) -> Explained
     ensures is { λ r. ⌜ r ≡ explainedBy (whyOf (layoutOf First) (now (s .entry))) ⌝ }
 {
-    let mut a = first(s);
+    let mut a = first_as(Edition::First, s);
     while a.number == 0 {
-        let p = a.place;
-        a = p.advance(s);
+        let c = a.cursor;
+        a = advance(c, Edition::First, s);
     }
     if a.number == 1 {
         return Explained {
@@ -129,7 +134,12 @@ pub fn explain(s: &[u8]) -> Explained
             ids: [0usize; 14],
         };
     }
-    let last = a.place;
-    let p = last.close_ended();
-    tell(a.number, a.offset, p)
+    let c = a.cursor;
+    let top = c.top;
+    let o1 = c.o1;
+    let o2 = c.o2;
+    let o3 = c.o3;
+    let left = close(c.position, c.count, top, o1, o2, o3);
+    let inner = left.top;
+    tell(a.number, a.offset, left.count, inner, o1, o2, o3)
 }

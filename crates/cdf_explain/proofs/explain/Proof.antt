@@ -8,39 +8,39 @@ use Rattle.cdf_unit_prefix.specs.Layout.{layoutOf}
 use Rattle.cdf_unit_prefix.specs.declared.Edition.the-variants.{First}
 use Rattle.cdf_unit_list.specs.declared.Unit.{Unit}
 use Rattle.cdf_reader_spec.specs.Calls.{nextOf}
-use Rattle.cdf_reader.specs.View.{view, replyOf}
-use Rattle.cdf_reader.proofs.Proved.{proved}
+use Rattle.cdf_reader_cursor.specs.Outcomes.{cursorPlace, outcomeReply}
+use Rattle.cdf_reader_advance.proofs.Steady.{advances}
 use Rattle.cdf_reader_runs.proofs.Looping.{Going, begun, Turn, turned, over}
 use Rattle.cdf_reader_runs.proofs.Further.{first-later, next-later, ahead, less}
 use Rattle.cdf_explain.specs.Numbers.{explainedBy}
 use Rattle.cdf_explain.specs.Parts.{toldAt}
-use Rattle.cdf_explain.proofs.Explaining.{Told, told-end, closed-units, closed-few}
+use Rattle.cdf_explain.proofs.Explaining.{Told, told-end, closed-few}
 use Rattle.cdf_explain.proofs.explain.Statement.{statement}
 use Rattle.cdf_explain.proofs.explain.Tie as tie
 
 abbrev Inv-loop : tie.InvT-loop
 Inv-loop s a₀ a =
-    ((before : List Unit) × Going (layoutOf First) s before (replyOf a)) × (a .number ≡ 0 → a .place .position ≤ length s)
+    ((before : List Unit) × Going (layoutOf First) s before (outcomeReply a)) × (a .number ≡ 0 → a .cursor .position ≤ length s)
 
 abbrev μ-loop : tie.MeasureT-loop
-μ-loop s a₀ a = ahead (layoutOf First) s (a .number) (a .place .position)
+μ-loop s a₀ a = ahead (layoutOf First) s (a .number) (a .cursor .position)
 
 -- What is told where the loop ends.
 end-of : (turn : tie.At-loop Inv-loop μ-loop) → (turn .loop .a .number ≡ 0 → ⊥) →
-    Told (layoutOf First) (turn .before .before .before .args .s .now) (replyOf (turn .loop .a))
+    Told (layoutOf First) (turn .before .before .before .args .s .now) (outcomeReply (turn .loop .a))
 end-of turn some =
     let s = turn .before .before .before .args .s .now in
     let g = turn .loop .inv .0 in
-    told-end (layoutOf First) s (g .0) (replyOf (turn .loop .a)) (over (layoutOf First) s (g .0) (replyOf (turn .loop .a)) (g .1) some)
+    told-end (layoutOf First) s (g .0) (outcomeReply (turn .loop .a)) (over (layoutOf First) s (g .0) (outcomeReply (turn .loop .a)) (g .1) some)
 
-first-requires : tie.Need-first-requires Inv-loop μ-loop
-first-requires c κs = search needs
+first-as-requires : tie.Need-first-as-requires Inv-loop μ-loop
+first-as-requires c κs = search needs
 
 loop-holds : tie.Need-loop-holds Inv-loop μ-loop
 loop-holds c =
     let s = c .before .before .args .s .now in (
-      ([], begun (layoutOf First) s (replyOf (c .first .result)) (c .first .ensures .0)),
-      λ z. (rw (← c .first .ensures .0) at (first-later (layoutOf First) s)) z .1,
+      ([], begun (layoutOf First) s (outcomeReply (c .first-as .result)) (c .first-as .ensures .0)),
+      λ z. (rw (← c .first-as .ensures .0) at (first-later (layoutOf First) s)) z .1,
     )
 
 advance-requires : tie.Need-advance-requires Inv-loop μ-loop
@@ -48,25 +48,25 @@ advance-requires c κs = search needs
 
 -- A unit was handed out; so the place fits, and the step is NEXT.
 here : (turn : tie.At-loop Inv-loop μ-loop) → turn .loop .a .number ≡ 0 →
-    Turn (layoutOf First) (turn .before .before .before .args .s .now) (turn .loop .inv .0 .0) (replyOf (turn .loop .a))
+    Turn (layoutOf First) (turn .before .before .before .args .s .now) (turn .loop .inv .0 .0) (outcomeReply (turn .loop .a))
 here turn z =
-    turned (layoutOf First) (turn .before .before .before .args .s .now) (turn .loop .inv .0 .0) (replyOf (turn .loop .a)) (turn .loop .inv .0 .1) z
+    turned (layoutOf First) (turn .before .before .before .args .s .now) (turn .loop .inv .0 .0) (outcomeReply (turn .loop .a)) (turn .loop .inv .0 .1) z
 
 next : (c : tie.After-advance Inv-loop μ-loop) →
     let turn = c .before .before .before .before in
-    replyOf (c .advance .result) ≡ nextOf (layoutOf First) (turn .before .before .before .args .s .now) (view (turn .loop .a .place))
+    outcomeReply (c .advance .result) ≡ nextOf (layoutOf First) (turn .before .before .before .args .s .now) (cursorPlace (turn .loop .a .cursor))
 next c =
     let more = c .before .before in
-    c .advance .ensures .0 ∙ proved .advances _ _ _ (here (more .before .before) (more .if1 .taken) .fit)
+    c .advance .ensures .0 ∙ advances _ _ _ (here (more .before .before) (more .if1 .taken) .fit)
 
 loop-less : tie.Need-loop-less Inv-loop μ-loop
 loop-less c =
     let more = c .before .before in
     let turn = more .before .before in
     let s = turn .before .before .before .args .s .now in
-    let p = turn .loop .a .place in
-    less (layoutOf First) s _ _ (replyOf (c .advance .result)) (more .if1 .taken) (turn .loop .inv .1 (more .if1 .taken))
-    (rw (← next c) at (next-later (layoutOf First) s (view p)))
+    let p = turn .loop .a .cursor in
+    less (layoutOf First) s _ _ (outcomeReply (c .advance .result)) (more .if1 .taken) (turn .loop .inv .1 (more .if1 .taken))
+    (rw (← next c) at (next-later (layoutOf First) s (cursorPlace p)))
 
 loop-again : tie.Need-loop-again Inv-loop μ-loop
 loop-again c =
@@ -76,7 +76,7 @@ loop-again c =
     let a = turn .loop .a in
     let before = turn .loop .inv .0 .0 in (
       (a .handed .unit ∷ before, rw (next c) (here turn (more .if1 .taken) .next)),
-      λ z. (rw (← next c) at (next-later (layoutOf First) s (view (a .place)))) z .1,
+      λ z. (rw (← next c) at (next-later (layoutOf First) s (cursorPlace (a .cursor)))) z .1,
     )
 
 returns : tie.Need-returns Inv-loop μ-loop
@@ -85,27 +85,24 @@ returns c =
     let done = c .before .before in
     rw (end-of (done .before .before) (done .if1 .left) .accepted (c .if2 .taken))
 
-close-ended-requires : tie.Need-close-ended-requires Inv-loop μ-loop
-close-ended-requires c κs = search needs
+close-requires : tie.Need-close-requires Inv-loop μ-loop
+close-requires c κs = search needs
 
 tell-requires : tie.Need-tell-requires Inv-loop μ-loop
 tell-requires c κs =
-    let done = c .before .before .before .before in
-    let turn = done .before .before in
-    let a = turn .loop .a in
-    let end = end-of turn (done .if1 .left) in
-    closed-few (c .close-ended .result) (a .place) (c .close-ended .ensures) (end .few)
+    let shut = c .before in
+    let done = shut .before .before .before .before .before .before .before .before in
+    let end = end-of (done .before .before) (done .if1 .left) in
+    closed-few _ _ _ _ _ _ (shut .close .ensures) (end .few)
 
 returns-2 : tie.Need-returns-2 Inv-loop μ-loop
 returns-2 c =
-    let refused = c .before .before .before in
+    let shut = c .before .before in
+    let refused = shut .before .before .before .before .before .before in
     let done = refused .before .before in
-    let turn = done .before .before in
-    let a = turn .loop .a in
-    let end = end-of turn (done .if1 .left) in
-    c .tell .ensures
-    ∙ ap (toldAt (a .number) (a .offset)) (closed-units (c .before .close-ended .result) (a .place) (c .before .close-ended .ensures))
-    ∙ sym (end .told (refused .if2 .left))
+    let a = done .before .before .loop .a in
+    let end = end-of (done .before .before) (done .if1 .left) in
+    c .tell .ensures ∙ ap (toldAt (a .number) (a .offset)) (shut .close .ensures) ∙ sym (end .told (refused .if2 .left))
 
 pub explain-spec : {M : Type 1} → statement M
 explain-spec =
@@ -113,12 +110,12 @@ explain-spec =
     (tie.spec
     Inv-loop
     μ-loop
-    first-requires
+    first-as-requires
     loop-holds
     advance-requires
     loop-less
     loop-again
     returns
-    close-ended-requires
+    close-requires
     tell-requires
     returns-2)

@@ -41,8 +41,8 @@ returns c =
     let l3 = l4 .before in
     let l2 = l3 .before in
     let l1 = l2 .before in
-    let start = l1 .before .before .before .before .before in
-    let p = start .args .p in
+    let start = l1 .before in
+    let a = start .args in
     rw (
       u1 .unit-of .ensures,
       u2 .unit-of2 .ensures,
@@ -54,7 +54,7 @@ returns c =
       l4 .at-level4 .ensures,
       c .before .admitted .ensures,
     )
-    (told-at (p .count) (p .top) (p .o1) (p .o2) (p .o3) (start .pre) (start .args .number) (start .args .offset))
+    (told-at (a .count) (a .top) (a .o1) (a .o2) (a .o3) (start .pre) (a .number) (a .offset))
 
 pub tell-spec : {M : Type 1} → statement M
 tell-spec =
