@@ -1,6 +1,6 @@
 /* The proved library for Common Data Format streams: the check, why it refuses a stream, the lookup of a value in two, the rescue of a
- * broken E/R data group, the reader and a run of the reader's calls, and by cdf_build.h the builder and the listing. The numbers that they
- * share are in cdf_numbers.h.
+ * broken E/R data group, the reader, many units in a call and a run of the reader's calls, and by cdf_build.h the builder and the listing.
+ * The numbers that they share are in cdf_numbers.h.
  *
  * Build target/libcdf.a with ./library, include this file and link the archive. It is for x86-64 Linux, and needs only memcpy and memset,
  * which every C library has.
@@ -139,6 +139,34 @@ uint64_t cdf_previous(const uint8_t *stream, size_t length, uint64_t place[CDF_P
 
 /* ABNORMAL_END: gives the reading up. 0; zeros are written to the place and to the answer. */
 uint64_t cdf_abnormal_end(const uint8_t *stream, size_t length, uint64_t place[CDF_PLACE_NUMBERS], uint64_t answer[CDF_ANSWER_NUMBERS]);
+
+/* A unit in a list: 7 numbers. */
+#define CDF_UNIT_NUMBERS 7
+#define CDF_UNIT_ID 0
+#define CDF_UNIT_ACTION 1
+#define CDF_UNIT_START 2
+#define CDF_UNIT_OWN_END 3
+#define CDF_UNIT_END 4
+#define CDF_UNIT_DEPTH 5
+#define CDF_UNIT_RANK 6
+
+/* What a call for many units answers beside its number: 2 numbers, written at each call. */
+#define CDF_UNITS_NUMBERS 2
+#define CDF_UNITS_OFFSET 0          /* where a rule is broken, beside the number that says so; else 0 */
+#define CDF_UNITS_COUNT 1           /* how many units the list has; 0 beside any number but CDF_OK */
+
+/* Many units in a call: NEXT after NEXT from the place on, each unit written to the list behind the one before, from its front on, as many as
+ * follow and as there is room for. list_length counts numbers: there is room for list_length / CDF_UNIT_NUMBERS units, and what the division
+ * leaves is not used. All numbers behind the units stay. The root is not among them: fill the place by cdf_first, whose answer has it.
+ * The place is tested once, which makes it quicker than cdf_next.
+ *
+ * Call it, with room for one unit at least, until it returns another number than CDF_OK. CDF_OK says that CDF_UNITS_COUNT units were handed
+ * out; with room for none it only says that the place belongs to the stream. Any other number comes with no unit, and leaves place and
+ * list: what stops the units, CDF_END or a fault, is told by the call after the one that handed out the last of them. CDF_ERR_NOTHING, and
+ * then CDF_ERR_UNFIT, come first, with room for none too. The place is that of the last unit: where it may be skipped or taken, cdf_skip and
+ * cdf_get_stream do so. 0, 1, 2 and 3 to 11. */
+uint64_t cdf_units(const uint8_t *stream, size_t length, uint64_t place[CDF_PLACE_NUMBERS], uint64_t *list, size_t list_length,
+                   uint64_t answer[CDF_UNITS_NUMBERS]);
 
 /* A run of the reader's calls by their codes, one after the other, each on the place that the last one returned. A list that
  * does not begin with a start runs from the empty place, and a code that is none of these ends it. */

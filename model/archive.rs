@@ -2,7 +2,7 @@
 
 use cdf_model::lookup::Asked;
 use cdf_model::numbers::{
-    AnswerNumbers, BuilderNumbers, ExplanationNumbers, FoundNumbers, ReaderNumbers, RescueNumbers,
+    AnswerNumbers, BatchNumbers, BuilderNumbers, ExplanationNumbers, FoundNumbers, ReaderNumbers, RescueNumbers,
 };
 use cdf_model::reader::Call;
 
@@ -25,6 +25,8 @@ extern "C" {
         nlog: usize,
         answer: *mut u64,
     ) -> u64;
+    fn cdf_units(stream: *const u8, n: usize, place: *mut u64, list: *mut u64, numbers: usize, answer: *mut u64)
+        -> u64;
     fn cdf_listing(stream: *const u8, n: usize, text: *mut u8, ntext: usize, answer: *mut u64) -> u64;
     fn cdf_explain(stream: *const u8, n: usize, answer: *mut u64) -> u64;
     fn cdf_lookup(
@@ -130,6 +132,15 @@ pub fn replay(stream: &[u8], calls: &[u8], log: &mut [u64]) -> (u64, u64) {
         let (codes, count) = (pointer(calls), calls.len());
         cdf_replay(pointer(stream), stream.len(), codes, count, log, nlog, answer)
     })
+}
+
+pub fn units(stream: &[u8], place: &mut ReaderNumbers, list: &mut [u64]) -> (u64, BatchNumbers) {
+    let (numbers, list) = (list.len(), pointer_mut(list));
+    let mut answer = [UNWRITTEN; 2];
+    let number = guarded(&mut answer, |answer| {
+        guarded(place, |place| unsafe { cdf_units(pointer(stream), stream.len(), place, list, numbers, answer) })
+    });
+    (number, answer)
 }
 
 pub fn listing(stream: &[u8], text: &mut [u8]) -> (u64, u64) {

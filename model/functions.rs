@@ -13,6 +13,7 @@ pub enum Function {
     Previous,
     AbnormalEnd,
     Replay,
+    Units,
     Listing,
     Explain,
     Lookup,
@@ -37,7 +38,7 @@ impl From<reader::Call> for Function {
 }
 
 /// The numbers that each function can give.
-pub const CAN_GIVE: [(&str, &[usize]); 16] = [
+pub const CAN_GIVE: [(&str, &[usize]); 17] = [
     ("cdf_check", &[0, 3, 4, 5, 6, 7, 8, 9, 10]),
     ("cdf_first", &[0, 3, 4, 5, 6, 7, 8]),
     ("cdf_next", &[0, 1, 2, 3, 4, 5, 6, 7, 8, 9, 10, 11]),
@@ -46,6 +47,7 @@ pub const CAN_GIVE: [(&str, &[usize]); 16] = [
     ("cdf_previous", &[0, 2, 11]),
     ("cdf_abnormal_end", &[0]),
     ("cdf_replay", &[0, 12]),
+    ("cdf_units", &[0, 1, 2, 3, 4, 5, 6, 7, 8, 9, 10, 11]),
     ("cdf_listing", &[0, 12]),
     ("cdf_explain", &[0, 3, 4, 5, 6, 7, 8, 9, 10]),
     ("cdf_lookup", &[0, 3, 4, 5, 6, 7, 8, 9, 10, 15]),
@@ -56,4 +58,6 @@ pub const CAN_GIVE: [(&str, &[usize]); 16] = [
     ("cdf_build_finish", &[0, 2, 10]),
 ];
 pub const READER: std::ops::Range<usize> = 1..7;
-pub const BUILDER: std::ops::Range<usize> = 12..16;
+/// The reader's calls, the replay and the batches.
+pub const AT_PLACES: std::ops::Range<usize> = 1..9;
+pub const BUILDER: std::ops::Range<usize> = 13..17;

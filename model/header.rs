@@ -1,18 +1,21 @@
 //! Calls through the headers of include/: each a line that the program gate/header/main.c reads, and the line that it owes. Both
 //! are in the names of the headers' constants, so that a constant with a wrong number makes a difference.
 
+use crate::batch::UNIT;
 use crate::build_cases::build_cases;
 use crate::build_run::{BuildCase, Step, UNWRITTEN};
 use crate::builder::{add_stream, finish, next, start};
 use crate::cases::{cases, unit};
 use crate::check::{check, listing};
 use crate::explain::explain;
-use crate::header_names::{action, building, call_name, code, hex, id, number, parts, place, state_number, sum};
+use crate::header_names::{
+    action, building, call_name, code, hex, id, number, parts, place, state_number, sum, unit_parts,
+};
 use crate::lookup::lookup;
 use crate::lookup_samples::lookups;
 use crate::numbers::{
-    builder_place, explanation, listed, of_builder_place, rescued, BuilderNumbers, ExplanationNumbers, FoundNumbers,
-    ReaderNumbers, RescueNumbers, CODES,
+    batch, builder_place, explanation, listed, of_builder_place, rescued, BatchNumbers, BuilderNumbers,
+    ExplanationNumbers, FoundNumbers, ReaderNumbers, RescueNumbers, CODES,
 };
 use crate::random::Random;
 use crate::reader::{call, Call, Place, Reply};
@@ -91,6 +94,8 @@ fn constants(lines: &mut Lines) {
         ("PLACE_NUMBERS", count::<ReaderNumbers>()),
         ("ANSWER_NUMBERS", ANSWER.len()),
         ("ENTRY_NUMBERS", ENTRY.len()),
+        ("UNIT_NUMBERS", UNIT),
+        ("UNITS_NUMBERS", count::<BatchNumbers>()),
         ("BUILD_PLACE_NUMBERS", count::<BuilderNumbers>()),
         ("LISTING_ROOM", ROOM),
     ];
@@ -121,15 +126,32 @@ fn read(lines: &mut Lines, stream: &[u8], at: &mut Place, random: &mut Random) {
     }
     for which in calls {
         let reply = call(which, stream, at);
-        let owed = parts("ANSWER", &reply, ANSWER);
-        let left = match &reply.place {
-            empty if *empty == Place::default() => " zeros".to_string(),
-            _ if reply.number != 0 => " stays".to_string(),
-            new => place(new),
-        };
-        lines.call(call_name(which), number(reply.number), &(owed + &left));
+        let owed = parts("ANSWER", &reply, ANSWER) + &left(reply.number, &reply.place);
+        lines.call(call_name(which), number(reply.number), &owed);
         *at = reply.place;
+        if random.one_in(6) {
+            many(lines, stream, at, random);
+        }
     }
+}
+
+/// What a call leaves of its place.
+fn left(refused: u64, left: &Place) -> String {
+    match left {
+        empty if *empty == Place::default() => " zeros".to_string(),
+        _ if refused != 0 => " stays".to_string(),
+        new => place(new),
+    }
+}
+
+/// Many units in a call, into a list that is long enough or not.
+fn many(lines: &mut Lines, stream: &[u8], at: &mut Place, random: &mut Random) {
+    let mut list = vec![0; random.below(UNIT * 4)];
+    let (made, [offset, count]) = batch(stream, at, &mut list);
+    let units: String = made.units.iter().map(unit_parts).collect();
+    let owed = format!(" CDF_UNITS_OFFSET={offset} CDF_UNITS_COUNT={count}{units}{}", left(made.number, &made.place));
+    lines.call(&format!("cdf_units {}", list.len()), number(made.number), &owed);
+    *at = made.place;
 }
 
 fn told(lines: &mut Lines, stream: &[u8]) {

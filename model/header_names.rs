@@ -143,6 +143,17 @@ pub fn parts<const N: usize>(of: &str, reply: &Reply, order: [&str; N]) -> Strin
     order.iter().map(|name| format!(" CDF_{of}_{name}={}", told(name))).collect()
 }
 
+/// A unit in a list.
+pub fn unit_parts(handed: &Handed) -> String {
+    let Handed { unit: Unit { id: unit, action: done, start, own, end }, depth, rank } = *handed;
+    format!(
+        " CDF_UNIT_ID={} CDF_UNIT_ACTION={} CDF_UNIT_START={start} CDF_UNIT_OWN_END={own} CDF_UNIT_END={end} CDF_UNIT_DEPTH={depth} \
+         CDF_UNIT_RANK={rank}",
+        id(unit),
+        action(done)
+    )
+}
+
 pub fn place(place: &reader::Place) -> String {
     let unit = |unit: &reader::Open| format!("{},{},{}", state(unit.id, unit.had), unit.start, unit.end);
     let (innermost, outer) = place.open.split_last().expect("an open unit");

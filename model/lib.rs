@@ -1,6 +1,8 @@
-//! A second implementation of document 01, and of requests a) to d), f) and g) of 02, in plain Rust, written from the documents
-//! and not from the proved code.
+//! A second implementation of document 01, and of requests a) to d), f), g) and k) of 02, in plain Rust, written from the
+//! documents and not from the proved code.
 
+pub mod batch;
+pub mod batch_samples;
 pub mod build_cases;
 mod build_places;
 pub mod build_run;

@@ -2,8 +2,10 @@
 //! rescues.
 //!   diff SECONDS SEED   for so long
 //!   diff long SEED      until the figures of `LONG` are reached, with a progress line
+//!   diff places SEED    hand-made places, batches and replays alone, until the figures of `PLACES` are reached
 
 mod archive;
+mod batches;
 mod builders;
 mod consistency;
 mod functions;
@@ -20,12 +22,13 @@ mod rescues;
 mod safe;
 mod tally;
 
+use cdf_model::batch_samples::batches;
 use cdf_model::cases::cases;
 use cdf_model::check::check;
 use cdf_model::explain::explain;
 use cdf_model::lookup::lookup;
 use cdf_model::lookup_samples::lookups;
-use cdf_model::numbers::reader_place;
+use cdf_model::numbers::{self, reader_place};
 use cdf_model::random::Random;
 use cdf_model::ranked_samples::{at_places, levels};
 use cdf_model::reader::{self, Call};
@@ -40,6 +43,9 @@ use tally::Tally;
 
 /// The least numbers of reader calls, hand-made places of reader and builder, and builder calls in a long run.
 const LONG: [u64; 4] = [40_000_000, 5_000_000, 4_000_000, 10_000_000];
+
+/// The least numbers of NEXTs and of batches at hand-made places together, and of calls in replays, in a run of places alone.
+const PLACES: [u64; 2] = [10_000_000, 10_000_000];
 
 /// The kind of a stream, its bytes, and its tree if it has no damage.
 fn stream(random: &mut Random) -> (&'static str, Vec<u8>, Option<Tree>) {
@@ -98,11 +104,16 @@ fn large(random: &mut Random) -> (&'static str, Vec<u8>, Option<Tree>) {
     ("streams: near the limit or above it", bytes, None)
 }
 
-fn round(tally: &mut Tally) {
+fn round(tally: &mut Tally, places_alone: bool) {
     // Each round has random numbers of its own, so that it does not depend on those before it.
     let random = &mut Random::new(tally.seed ^ tally.round.wrapping_mul(0xD134_2543_DE82_EF95));
     let (kind, stream, tree) = stream(random);
     tally.count(kind);
+    if places_alone {
+        readers::compare_places(tally, &stream, random);
+        tally.round += 1;
+        return;
+    }
     readers::compare(tally, &stream, tree.as_ref(), random);
     builders::compare(tally, random);
     lookups::compare(tally, random);
@@ -149,6 +160,16 @@ fn fixed(tally: &mut Tally) {
             readers::compare_call(tally, call, &at.stream, &mut at.place.clone());
         }
     }
+    for sample in batches() {
+        let mut list = vec![u64::MAX; sample.length];
+        let (batch, answer) = numbers::batch(&sample.stream, &reader_place(&sample.place), &mut list);
+        let units = list.chunks_exact(7).take(sample.units.len());
+        assert_eq!((batch.number, answer), (sample.number, sample.answer), "{}", sample.label);
+        assert!(units.eq(sample.units.iter().map(|unit| &unit[..])), "{}: {list:?}", sample.label);
+        let left = (batch.place.position, batch.place.open.len() as u64);
+        assert_eq!(left, sample.left, "{}", sample.label);
+        batches::compare_one(tally, &sample.stream, &mut sample.place.clone(), sample.length, true);
+    }
     for (_, bytes) in &cases {
         readers::compare_check(tally, bytes);
         readers::compare_explain(tally, bytes);
@@ -167,20 +188,29 @@ fn reached(tally: &Tally) -> [u64; 4] {
     ]
 }
 
+/// What a run of places alone has reached: NEXTs and batches at hand-made places, and calls in replays.
+fn reached_places(tally: &Tally) -> [u64; 2] {
+    let at_places = tally.counted("NEXTs at hand-made places") + tally.counted("batches at hand-made places");
+    [at_places, tally.counted("calls in replays")]
+}
+
 /// When a run is done.
+#[derive(PartialEq)]
 enum Until {
     Seconds(u64),
     Rounds(u64),
     Long,
+    Places,
 }
 
 fn main() {
     let words: Vec<String> = std::env::args().skip(1).collect();
     let words: Vec<&str> = words.iter().map(String::as_str).collect();
-    let usage = "usage: diff SECONDS SEED | rounds ROUNDS SEED | long SEED";
+    let usage = "usage: diff SECONDS SEED | rounds ROUNDS SEED | long SEED | places SEED";
     let parsed = |word: &str| word.parse::<u64>().expect(usage);
     let (until, seed) = match words[..] {
         ["long", seed] => (Until::Long, seed),
+        ["places", seed] => (Until::Places, seed),
         ["rounds", rounds, seed] => (Until::Rounds(parsed(rounds)), seed),
         [seconds, seed] => (Until::Seconds(parsed(seconds)), seed),
         _ => panic!("{usage}"),
@@ -188,15 +218,17 @@ fn main() {
     let mut tally = Tally::new(parsed(seed));
     let begun = Instant::now();
     let mut told = begun;
+    let places_alone = until == Until::Places;
     fixed(&mut tally);
     loop {
-        round(&mut tally);
+        round(&mut tally, places_alone);
         let at_times = tally.round.is_multiple_of(64);
         let done = match until {
             Until::Rounds(rounds) => tally.round >= rounds,
             _ if !at_times => false,
             Until::Seconds(seconds) => begun.elapsed() >= Duration::from_secs(seconds),
             Until::Long => reached(&tally).iter().zip(&LONG).all(|(have, least)| have >= least),
+            Until::Places => reached_places(&tally).iter().zip(&PLACES).all(|(have, least)| have >= least),
         };
         let tells = matches!(until, Until::Long) && at_times;
         if tells && (done || told.elapsed() >= Duration::from_secs(2)) {
@@ -214,7 +246,7 @@ fn main() {
     if matches!(until, Until::Long) {
         eprintln!();
     }
-    let good = tally.report();
+    let good = tally.report(places_alone);
     println!("seed {}, {} rounds, {} s", tally.seed, tally.round, begun.elapsed().as_secs());
     println!("{}", if good { "no difference" } else { "FAILED" });
     std::process::exit(i32::from(!good));

@@ -1,5 +1,6 @@
 //! Places, answers, explanations, lookups, rescues and logs as the numbers that cross the C boundary.
 
+use crate::batch::{units, Batch, UNIT};
 use crate::builder;
 use crate::check::listing;
 use crate::explain::Explanation;
@@ -16,6 +17,7 @@ pub type BuilderNumbers = [u64; 10];
 pub type ExplanationNumbers = [u64; 25];
 pub type FoundNumbers = [u64; 4];
 pub type RescueNumbers = [u64; 130];
+pub type BatchNumbers = [u64; 2];
 
 /// The states, from 1 on: an id, and what such a unit has had.
 const STATES: [(u64, Had); 30] = [
@@ -141,6 +143,22 @@ pub fn answer(reply: &Reply) -> AnswerNumbers {
     let [id, action, start, own, end] = of_unit(unit);
     let (part, length) = reply.part;
     [reply.offset, id, action, start, own, end, part, length, depth, rank]
+}
+
+/// A unit in a list of units.
+fn listed_unit(handed: &Handed) -> [u64; UNIT] {
+    let [id, action, start, own, end] = of_unit(handed.unit);
+    [id, action, start, own, end, handed.depth, handed.rank]
+}
+
+/// Writes the units from a place on to the front of a list, as many as it has room for. Gives the offset and how many beside what it was.
+pub fn batch(stream: &[u8], place: &Place, list: &mut [u64]) -> (Batch, BatchNumbers) {
+    let batch = units(stream, place, list.len() / UNIT);
+    for (unit, entry) in batch.units.iter().zip(list.chunks_exact_mut(UNIT)) {
+        entry.copy_from_slice(&listed_unit(unit));
+    }
+    let answer = [batch.offset, batch.units.len() as u64];
+    (batch, answer)
 }
 
 /// Offset; how many units are open, and id and start of four; how many ids, and fourteen. Entries that are not used are 0.

@@ -3,7 +3,7 @@
 
 use crate::functions::Function;
 use crate::tally::Tally;
-use crate::{archive, consistency, keys, places, pointed, ranked};
+use crate::{archive, batches, consistency, keys, places, pointed, ranked};
 use cdf_model::check::{check, listing};
 use cdf_model::explain::explain;
 use cdf_model::numbers::{self, reader_place, ReaderNumbers, CODES, ENTRY};
@@ -153,6 +153,7 @@ fn compare_replay(tally: &mut Tally, stream: &[u8], codes: &[u8], random: &mut R
         tally.differ("cdf_replay", &given, &one, &other);
     }
     tally.met(Function::Replay, owed.0);
+    tally.add("calls in replays", owed.1);
 }
 
 fn compare_listing(tally: &mut Tally, stream: &[u8], random: &mut Random) {
@@ -177,12 +178,14 @@ fn compare_listing(tally: &mut Tally, stream: &[u8], random: &mut Random) {
     tally.met(Function::Listing, owed.0);
 }
 
-fn compare_hand_made(tally: &mut Tally, stream: &[u8], met: &[ReaderNumbers], random: &mut Random) {
+fn compare_hand_made(tally: &mut Tally, stream: &[u8], met: &[ReaderNumbers], random: &mut Random, own: &mut Random) {
     let n = stream.len() as u64;
     let (kind, made) = places::reader(met, n, random);
     tally.count(kind);
     tally.reader_place(&reader_place(&made), n);
     tally.ranked(&ranked::of_place(&made, n));
+    batches::compare(tally, stream, &made, true, own);
+    tally.count("NEXTs at hand-made places");
     for call in [Call::Next, Call::Skip, Call::GetStream, Call::Previous] {
         let mut place = made;
         let number = compare_call(tally, call, stream, &mut place);
@@ -225,7 +228,37 @@ pub fn compare(tally: &mut Tally, stream: &[u8], tree: Option<&Tree>, random: &m
             compare_replay(tally, stream, &codes, random);
         }
     }
+    let own = &mut of_its_own(tally);
     for _ in 0..6 {
-        compare_hand_made(tally, stream, &met, random);
+        compare_hand_made(tally, stream, &met, random, own);
+    }
+    for _ in 0..3 {
+        batches::compare(tally, stream, &own.pick(&met), false, own);
+    }
+    if asked {
+        batches::compare_whole(tally, stream, own);
+    }
+}
+
+/// Random numbers for the batches, so that what else is compared in a round does not depend on them.
+fn of_its_own(tally: &Tally) -> Random {
+    Random::new(tally.seed.rotate_left(32) ^ tally.round.wrapping_mul(0xA24B_AED4_963E_E407))
+}
+
+/// Hand-made places alone, many of them, and lists of calls as replays.
+pub fn compare_places(tally: &mut Tally, stream: &[u8], random: &mut Random) {
+    let units = check(stream).map_or(stream.len() / 12, |units| units as usize);
+    let own = &mut of_its_own(tally);
+    let mut met = Vec::new();
+    for _ in 0..2 {
+        let codes = call_list(units, random);
+        met.extend(compare_list(tally, stream, &codes, random));
+        compare_replay(tally, stream, &codes, random);
+    }
+    for _ in 0..24 {
+        compare_hand_made(tally, stream, &met, random, own);
+    }
+    for _ in 0..4 {
+        batches::compare(tally, stream, &own.pick(&met), false, own);
     }
 }

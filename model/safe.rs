@@ -77,9 +77,11 @@ pub fn compare_rescue(tally: &mut Tally, bytes: &[u8], room: u64, owed: &Rescued
 fn read(tally: &mut Tally, stream: &[u8], random: &mut Random) {
     let (mut reader, mut place) = (Reader::new(stream), Place::default());
     let mut first = true;
-    for _ in 0..60 {
+    // Calls between the units, often or now and then: the reader may then have read far ahead.
+    let (calls, of) = random.pick(&[(60, 8), (60, 8), (160, 50)]);
+    for _ in 0..calls {
         let given = || format!("{}, place {place:?}", hex(stream));
-        let call = match random.below(8) {
+        let call = match random.below(of) {
             0 => Call::Skip,
             1 => Call::GetStream,
             2 => Call::Previous,

@@ -1,6 +1,7 @@
 //! What was compared, how often, and with which numbers; and the end of a run at the first difference.
 
-use crate::functions::{Function, BUILDER, CAN_GIVE, READER};
+use crate::batches::BATCHED;
+use crate::functions::{Function, AT_PLACES, BUILDER, CAN_GIVE, READER};
 use crate::keys::TOO_MANY;
 use crate::looked_up::LOOKED_UP;
 use crate::pointed::{Byte, BYTES};
@@ -61,6 +62,7 @@ pub struct Tally {
     looked_up: [u64; LOOKED_UP.len()],
     rescued: [u64; RESCUED.len()],
     ranked: [u64; RANKED.len()],
+    batched: [u64; BATCHED.len()],
 }
 
 impl Tally {
@@ -79,11 +81,16 @@ impl Tally {
             looked_up: [0; LOOKED_UP.len()],
             rescued: [0; RESCUED.len()],
             ranked: [0; RANKED.len()],
+            batched: [0; BATCHED.len()],
         }
     }
 
     pub fn count(&mut self, kind: &'static str) {
-        *self.kinds.entry(kind).or_default() += 1;
+        self.add(kind, 1);
+    }
+
+    pub fn add(&mut self, kind: &'static str, count: u64) {
+        *self.kinds.entry(kind).or_default() += count;
     }
 
     pub fn counted(&self, start: &str) -> u64 {
@@ -169,6 +176,11 @@ impl Tally {
         count_each(&RANKED, &mut self.ranked, kinds);
     }
 
+    /// A call for many units that was all these of `BATCHED`.
+    pub fn batched(&mut self, kinds: &[&str]) {
+        count_each(&BATCHED, &mut self.batched, kinds);
+    }
+
     fn calls(&self, of: std::ops::Range<usize>) -> u64 {
         self.met[of].iter().flatten().sum()
     }
@@ -190,8 +202,9 @@ impl Tally {
 
     /// Prints the figures. False if a number was not met that the function can give, or met that it cannot, or if a clause
     /// was never missed alone, a kind of refusal not explained, a kind of byte not named, a kind of key not refused, a kind
-    /// of lookup or of rescue not made, or a kind of rank not told.
-    pub fn report(&self) -> bool {
+    /// of lookup, of rescue or of batch not made, or a kind of rank not told. Of a run on hand-made places alone the functions that it
+    /// calls are asked, and the kinds of places, ranks and batches.
+    pub fn report(&self, places_alone: bool) -> bool {
         let mut good = true;
         println!("compared:");
         for (kind, count) in &self.kinds {
@@ -200,7 +213,10 @@ impl Tally {
         println!("{:>12} reader calls, one by one", self.reader_calls());
         println!("{:>12} builder calls", self.builder_calls());
         println!("numbers met by each function:");
-        for ((name, can_give), met) in CAN_GIVE.iter().zip(&self.met) {
+        for (function, ((name, can_give), met)) in CAN_GIVE.iter().zip(&self.met).enumerate() {
+            if places_alone && !AT_PLACES.contains(&function) {
+                continue;
+            }
             let mut figures = Vec::new();
             let mut wrong = Vec::new();
             for (number, times) in met.iter().enumerate() {
@@ -220,6 +236,11 @@ impl Tally {
         }
         let reader = "hand-made places of the reader that missed one clause alone";
         good &= each_met(reader, &reader::CLAUSES, &self.reader_missed, &NOT_ASKED);
+        good &= each_met("depths and ranks", &RANKED, &self.ranked, &[]);
+        good &= each_met("many units in a call", &BATCHED, &self.batched, &[]);
+        if places_alone {
+            return good;
+        }
         let builder = "hand-made places of the builder that missed one clause alone";
         good &= each_met(builder, &builder::CLAUSES, &self.builder_missed, &[]);
         good &= each_met("refusals explained", &EXPLAINED, &self.explained, &[]);
@@ -232,7 +253,6 @@ impl Tally {
         good &= each_met("hand-made places that fit, and their innermost unit", &TEMPORARY, &self.temporary, &[]);
         good &= each_met("lookups", &LOOKED_UP, &self.looked_up, &[]);
         good &= each_met("rescues", &RESCUED, &self.rescued, &[]);
-        good &= each_met("depths and ranks", &RANKED, &self.ranked, &[]);
         good
     }
 }

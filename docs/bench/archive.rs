@@ -36,6 +36,9 @@ pub trait Archive {
     fn explain(stream: &[u8], answer: &mut Explanation) -> u64;
     fn first(stream: &[u8], place: &mut Place, answer: &mut Answer) -> u64;
     fn next(stream: &[u8], place: &mut Place, answer: &mut Answer) -> u64;
+    fn skip(stream: &[u8], place: &mut Place, answer: &mut Answer) -> u64;
+    fn get_stream(stream: &[u8], place: &mut Place, answer: &mut Answer) -> u64;
+    fn previous(stream: &[u8], place: &mut Place, answer: &mut Answer) -> u64;
     /// FIRST and NEXTs to the end, each called from C, folded.
     fn walk(stream: &[u8]) -> u64;
     fn replay(stream: &[u8], calls: &[u8], log: &mut [u64], answer: &mut [u64; 1]) -> u64;
@@ -48,14 +51,17 @@ pub trait Archive {
 }
 
 macro_rules! archive {
-    ($archive:ident, $name:literal, $check:ident, $explain:ident, $first:ident, $next:ident, $walk:ident,
-     $replay:ident, $build_first:ident, $build_next:ident, $build_finish:ident, $listing:ident, $lookup:ident,
-     $rescue:ident) => {
+    ($archive:ident, $name:literal, $check:ident, $explain:ident, $first:ident, $next:ident, $skip:ident,
+     $get_stream:ident, $previous:ident, $walk:ident, $replay:ident, $build_first:ident, $build_next:ident,
+     $build_finish:ident, $listing:ident, $lookup:ident, $rescue:ident) => {
         extern "C" {
             fn $check(stream: *const u8, length: usize, answer: &mut [u64; 1]) -> u64;
             fn $explain(stream: *const u8, length: usize, answer: &mut Explanation) -> u64;
             fn $first(stream: *const u8, length: usize, place: &mut Place, answer: &mut Answer) -> u64;
             fn $next(stream: *const u8, length: usize, place: &mut Place, answer: &mut Answer) -> u64;
+            fn $skip(stream: *const u8, length: usize, place: &mut Place, answer: &mut Answer) -> u64;
+            fn $get_stream(stream: *const u8, length: usize, place: &mut Place, answer: &mut Answer) -> u64;
+            fn $previous(stream: *const u8, length: usize, place: &mut Place, answer: &mut Answer) -> u64;
             fn $walk(stream: *const u8, length: usize) -> u64;
             fn $replay(
                 stream: *const u8,
@@ -129,6 +135,15 @@ macro_rules! archive {
             fn next(stream: &[u8], place: &mut Place, answer: &mut Answer) -> u64 {
                 unsafe { $next(stream.as_ptr(), stream.len(), place, answer) }
             }
+            fn skip(stream: &[u8], place: &mut Place, answer: &mut Answer) -> u64 {
+                unsafe { $skip(stream.as_ptr(), stream.len(), place, answer) }
+            }
+            fn get_stream(stream: &[u8], place: &mut Place, answer: &mut Answer) -> u64 {
+                unsafe { $get_stream(stream.as_ptr(), stream.len(), place, answer) }
+            }
+            fn previous(stream: &[u8], place: &mut Place, answer: &mut Answer) -> u64 {
+                unsafe { $previous(stream.as_ptr(), stream.len(), place, answer) }
+            }
             #[inline(always)]
             fn walk(stream: &[u8]) -> u64 {
                 unsafe { $walk(stream.as_ptr(), stream.len()) }
@@ -192,6 +207,9 @@ archive!(
     cdf_explain,
     cdf_first,
     cdf_next,
+    cdf_skip,
+    cdf_get_stream,
+    cdf_previous,
     walk_from_c,
     cdf_replay,
     cdf_build_first,
@@ -209,6 +227,9 @@ archive!(
     before_cdf_explain,
     before_cdf_first,
     before_cdf_next,
+    before_cdf_skip,
+    before_cdf_get_stream,
+    before_cdf_previous,
     before_walk_from_c,
     before_cdf_replay,
     before_cdf_build_first,
@@ -227,3 +248,42 @@ pub fn proved_walk(stream: &[u8]) -> u64 {
     // SAFETY: as above.
     unsafe { cdf_walk(stream.as_ptr(), stream.len()) }
 }
+
+/// Many units in a call. An older archive may lack it.
+pub trait Batches: Archive {
+    /// Offset, and how many units there are in the list, seven numbers each.
+    fn units(stream: &[u8], place: &mut Place, list: &mut [u64], answer: &mut [u64; 2]) -> u64;
+    /// FIRST, then all other units by 32, called from C, folded.
+    fn walk_units(stream: &[u8]) -> u64;
+}
+
+macro_rules! batches {
+    ($archive:ident, $units:ident, $walk:ident) => {
+        extern "C" {
+            fn $units(
+                stream: *const u8,
+                length: usize,
+                place: &mut Place,
+                list: *mut u64,
+                numbers: usize,
+                answer: &mut [u64; 2],
+            ) -> u64;
+            fn $walk(stream: *const u8, length: usize) -> u64;
+        }
+
+        // SAFETY: as above.
+        impl Batches for $archive {
+            fn units(stream: &[u8], place: &mut Place, list: &mut [u64], answer: &mut [u64; 2]) -> u64 {
+                unsafe { $units(stream.as_ptr(), stream.len(), place, list.as_mut_ptr(), list.len(), answer) }
+            }
+            #[inline(always)]
+            fn walk_units(stream: &[u8]) -> u64 {
+                unsafe { $walk(stream.as_ptr(), stream.len()) }
+            }
+        }
+    };
+}
+
+batches!(Now, cdf_units, units_from_c);
+#[cfg(before_units)]
+batches!(Before, before_cdf_units, before_units_from_c);

@@ -1,11 +1,13 @@
 //! The codes that are timed, by part: the first two of a part are plain Rust, inlined and out of line.
 
-use crate::archive::{proved_walk, Archive, Explanation, Found, Now, Rescued, ENTRY};
+use crate::archive::{proved_walk, Archive, Batches, Explanation, Found, Now, Rescued, ENTRY};
 use crate::cases::{Case, Second};
+use crate::iterator;
 use crate::plain::{check, explain, replay, walk, INLINED, OUT_OF_LINE};
 use crate::plain_lookup::lookup;
 use crate::plain_rescue::rescue;
 use crate::plain_write::{listing, Builder};
+use crate::rules::{RANGES, ROW};
 
 /// As many bytes as any listing takes.
 pub const LISTING_ROOM: usize = 207_527;
@@ -44,7 +46,7 @@ pub struct Code {
 pub struct Part {
     pub name: &'static str,
     pub codes: Vec<Code>,
-    /// Pairs of codes: the first one's time is also given by that of the second, which does other work than the part's.
+    /// Pairs of codes: the first one's time is also given by that of the second, which is no code to be compared.
     pub by: Vec<(usize, usize)>,
     /// How many bytes of a case the part reads or writes: none if the part is not timed on it.
     pub bytes: fn(&Case) -> usize,
@@ -208,6 +210,11 @@ fn version<A: Archive>(parts: &mut [Part; 9]) {
     parts[5].codes.push(Code { name: format!("{}cdf_listing, no room", A::NAME), run: counted_listing::<A> });
 }
 
+fn batches<A: Batches>(reader: &mut Part) {
+    let name = format!("{}cdf_first, cdf_units by 32, from C", A::NAME);
+    reader.codes.push(Code { name, run: |case, _| A::walk_units(&case.stream) });
+}
+
 pub fn parts() -> [Part; 9] {
     fn part(
         name: &'static str,
@@ -221,7 +228,11 @@ pub fn parts() -> [Part; 9] {
     let mut parts = [
         part("check", plain_check::<INLINED>, plain_check::<OUT_OF_LINE>),
         part("explain", plain_explain::<INLINED>, plain_explain::<OUT_OF_LINE>),
-        part("reader", |case, _| walk::<INLINED>(&case.stream), |case, _| walk::<OUT_OF_LINE>(&case.stream)),
+        part(
+            "reader",
+            |case, _| walk::<INLINED, RANGES>(&case.stream),
+            |case, _| walk::<OUT_OF_LINE, RANGES>(&case.stream),
+        ),
         part("replay", plain_replay::<INLINED>, plain_replay::<OUT_OF_LINE>),
         part("builder", plain_build::<INLINED>, plain_build::<OUT_OF_LINE>),
         part("listing", plain_listing::<INLINED>, plain_listing::<OUT_OF_LINE>),
@@ -234,9 +245,27 @@ pub fn parts() -> [Part; 9] {
     parts[6].bytes = |case| case.second.as_ref().map_or(0, |second| case.stream.len() + second.stream.len());
     parts[7].bytes = |case| case.lost.as_ref().map_or(0, |_| case.stream.len());
     parts[8].bytes = |case| case.lost.as_ref().map_or(0, Vec::len);
-    parts[2].codes.push(Code { name: "cdf_walk".to_string(), run: |case, _| proved_walk(&case.stream) });
+    let reader = &mut parts[2];
+    let by_row: fn(&Case, &mut Scratch) -> u64 = |case, _| walk::<INLINED, ROW>(&case.stream);
+    reader.codes.push(Code { name: "reader: plain, inlined, names by a row".to_string(), run: by_row });
+    reader.codes.push(Code { name: "cdf_walk".to_string(), run: |case, _| proved_walk(&case.stream) });
     version::<Now>(&mut parts);
     #[cfg(before)]
     version::<crate::archive::Before>(&mut parts);
+    batches::<Now>(&mut parts[2]);
+    parts[2].codes.push(Code { name: "cdf::Reader".to_string(), run: |case, _| iterator::walk(&case.stream) });
+    #[cfg(before_units)]
+    batches::<crate::archive::Before>(&mut parts[2]);
+    let reader = &mut parts[2];
+    reader.by = (BY_ROW + 1..reader.codes.len()).map(|code| (code, BY_ROW)).collect();
     parts
+}
+
+/// Where in the part reader the third plain code stands, with names by a row: the other codes are told by it too.
+pub const BY_ROW: usize = 2;
+
+/// The part reader, whose codes are also timed on the streams of a night.
+pub fn reader() -> Part {
+    let [_, _, reader, ..] = parts();
+    reader
 }

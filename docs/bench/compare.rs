@@ -1,25 +1,27 @@
 //! That the proved code gives plain Rust's answers: nothing is timed before.
 
-use crate::archive::{proved_walk, Archive, Explanation, Now, ENTRY, LAST, LAST_RANK};
+use crate::archive::{Archive, Explanation, Now, Place, ENTRY};
 use crate::cases::{Case, Second};
 use crate::codes::{plain_build, proved_build, Scratch, LISTING_ROOM};
-use crate::plain::{check, explain, fold_stop, fold_unit, replay, walk, Reader, INLINED, OUT_OF_LINE};
+use crate::compare_reader::{assert_plain_walk, assert_reader, assert_units, words};
+use crate::plain::{check, explain, fold_stop, fold_unit, replay, Reader, INLINED, OUT_OF_LINE};
 use crate::plain_write::{listing, Builder};
 use crate::random::Random;
 use crate::rules::{Handed, Stop, Unit};
-use crate::streams::{damaged, lost, one_field_more, samples, Sample, Set};
+use crate::samples::samples;
+use crate::streams::{damaged, lost, one_field_more, Set};
 
 /// What plain Rust says of some bytes: the units handed out, with depth and rank too, what comes after the last, and why it
 /// is a refusal.
 pub struct Expected {
     pub units: Vec<Unit>,
-    handed: Vec<Handed>,
-    stop: Stop,
+    pub handed: Vec<Handed>,
+    pub stop: Stop,
     explanation: Explanation,
 }
 
 impl Expected {
-    fn fold(&self) -> u64 {
+    pub fn fold(&self) -> u64 {
         fold_stop(self.handed.iter().fold(0, fold_unit), &self.stop)
     }
 
@@ -77,18 +79,6 @@ fn second(first: &[u8], units: &[Unit]) -> Second {
     Second { stream, units }
 }
 
-/// What request a of document 02 says of a sample.
-fn explanation(sample: &Sample) -> Explanation {
-    let mut numbers = [0; 25];
-    let offset = if sample.answer.0 == 0 { 0 } else { sample.answer.1 };
-    (numbers[0], numbers[1], numbers[10]) = (offset, sample.open.len() as u64, sample.ids.len() as u64);
-    for (pair, (id, start)) in numbers[2..10].chunks_exact_mut(2).zip(sample.open) {
-        pair.copy_from_slice(&[*id, *start]);
-    }
-    numbers[11..11 + sample.ids.len()].copy_from_slice(sample.ids);
-    numbers
-}
-
 /// The two forms of the plain code agree.
 fn assert_plain(label: &str, bytes: &[u8], expected: &Expected) {
     for checked in [check::<INLINED>(bytes), check::<OUT_OF_LINE>(bytes)] {
@@ -103,8 +93,7 @@ fn assert_plain(label: &str, bytes: &[u8], expected: &Expected) {
         assert_eq!(explain(bytes, &mut answer), expected.check().0, "plain number on {label}");
         assert_eq!(answer, expected.explanation, "plain explanation on {label}");
     }
-    assert_eq!(walk::<INLINED>(bytes), expected.fold(), "plain walk on {label}");
-    assert_eq!(walk::<OUT_OF_LINE>(bytes), expected.fold(), "plain walk, out of line, on {label}");
+    assert_plain_walk(label, bytes, expected);
 }
 
 fn assert_check<A: Archive>(label: &str, bytes: &[u8], expected: &Expected) {
@@ -117,32 +106,6 @@ fn assert_explain<A: Archive>(label: &str, bytes: &[u8], expected: &Expected) {
     let mut answer = [u64::MAX; 25];
     assert_eq!(A::explain(bytes, &mut answer), expected.check().0, "{}cdf_explain's number on {label}", A::NAME);
     assert_eq!(answer, expected.explanation, "{}cdf_explain on {label}", A::NAME);
-}
-
-fn assert_reader<A: Archive>(label: &str, bytes: &[u8], expected: &Expected) {
-    let mut place = [u64::MAX; 25];
-    let mut answer = [u64::MAX; 10];
-    let mut number = A::first(bytes, &mut place, &mut answer);
-    for handed in &expected.handed {
-        let Handed { unit, depth, rank } = handed;
-        let Unit { id, action, start, own, end } = *unit;
-        let words = [id as u64, action as u64, start as u64, own as u64, end as u64];
-        assert_eq!(number, 0, "number on {label}, unit {unit:?}");
-        assert_eq!(answer[0], 0, "offset on {label}, unit {unit:?}");
-        assert_eq!(answer[1..6], words, "unit on {label}");
-        assert_eq!(answer[6..8], [0, 0], "part on {label}, unit {unit:?}");
-        assert_eq!(answer[8..], [*depth as u64, *rank as u64], "depth and rank on {label}, unit {unit:?}");
-        assert_eq!(place[LAST], words, "last unit of the place on {label}");
-        assert_eq!(place[LAST_RANK], *rank as u64, "its rank in the place on {label}");
-        let given = place;
-        answer = [u64::MAX; 10];
-        number = A::next(bytes, &mut place, &mut answer);
-        assert!(number == 0 || place == given, "a refusal changed the place on {label}, after {unit:?}");
-    }
-    let Stop { number: stop, offset } = expected.stop;
-    assert_eq!((number, answer[0]), (stop as u64, offset as u64), "number and offset on {label}");
-    assert_eq!(answer[1..], [0; 9], "unit and part beside a refusal on {label}");
-    assert!(!expected.units.is_empty() || place[1] == 0, "the place of a refused start on {label}");
 }
 
 /// A start and one NEXT more than there are units, so that the last answer is met twice.
@@ -221,14 +184,15 @@ fn assert_builder<A: Archive>(label: &str, case: &Case, random: &mut Random, met
     assert!(plain == proved, "the buffer on {label}");
 }
 
-fn assert_archive<A: Archive>(label: &str, case: &Case, expected: &Expected) {
+/// Gives the places that the reader met.
+fn assert_archive<A: Archive>(label: &str, case: &Case, expected: &Expected) -> Vec<Place> {
     let bytes = &case.stream;
     assert_check::<A>(label, bytes, expected);
     assert_explain::<A>(label, bytes, expected);
-    assert_reader::<A>(label, bytes, expected);
-    assert_eq!(A::walk(bytes), expected.fold(), "{}single calls from C on {label}", A::NAME);
+    let met = assert_reader::<A>(label, bytes, expected);
     assert_replay::<A>(label, case);
     assert_listing::<A>(label, bytes);
+    met
 }
 
 /// How often each of these numbers was met: all of them were.
@@ -246,8 +210,10 @@ pub fn assert_equal(sets: &[Set]) {
         let expected = read(bytes);
         let case = Case::new(bytes.to_vec(), &expected.units);
         assert_plain(label, bytes, &expected);
-        assert_eq!(proved_walk(bytes), expected.fold(), "cdf_walk on {label}");
-        assert_archive::<Now>(label, &case, &expected);
+        let met = assert_archive::<Now>(label, &case, &expected);
+        for room in [1, 7, 32] {
+            assert_units::<Now>(label, bytes, &expected, &met, room);
+        }
         #[cfg(before)]
         assert_archive::<crate::archive::Before>(label, &case, &expected);
         stops[expected.stop.number as usize] += 1;
@@ -258,8 +224,10 @@ pub fn assert_equal(sets: &[Set]) {
     };
     for sample in samples() {
         let expected = compare(sample.name, &sample.bytes);
+        let units: Vec<[u64; 7]> = expected.handed.iter().map(words).collect();
         assert_eq!(expected.check(), sample.answer, "document 01 on {}", sample.name);
-        assert_eq!(expected.explanation, explanation(&sample), "request a on {}", sample.name);
+        assert_eq!(units, sample.units, "document 01 and request g on {}", sample.name);
+        assert_eq!(expected.explanation, sample.explanation(), "request a on {}", sample.name);
     }
     for set in sets {
         let random = &mut Random::new(set.size as u64);

@@ -7,7 +7,8 @@ use crate::plain::{INLINED, OUT_OF_LINE};
 use crate::plain_lookup::lookup;
 use crate::random::Random;
 use crate::rules::Unit;
-use crate::streams::{damaged, one_field_more, samples, unit, Set};
+use crate::samples::samples;
+use crate::streams::{damaged, one_field_more, unit, Set};
 
 /// A stream with what plain Rust says of it.
 struct Stream {

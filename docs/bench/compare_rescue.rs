@@ -5,7 +5,8 @@ use crate::compare::{list, read};
 use crate::plain::{check, INLINED, OUT_OF_LINE};
 use crate::plain_rescue::rescue;
 use crate::random::Random;
-use crate::streams::{damaged, lost, samples, unit, Set};
+use crate::samples::samples;
+use crate::streams::{damaged, lost, unit, Set};
 
 /// The number, the answer and the group.
 type Answer = (u64, Rescued, Vec<u8>);

@@ -6,7 +6,13 @@ mod cases;
 mod codes;
 mod compare;
 mod compare_lookup;
+mod compare_places;
+mod compare_reader;
 mod compare_rescue;
+mod hand_made;
+mod iterator;
+mod night;
+mod place;
 mod plain;
 mod plain_lookup;
 mod plain_rescue;
@@ -14,27 +20,33 @@ mod plain_write;
 mod random;
 mod rounds;
 mod rules;
+mod samples;
 mod slow;
 mod streams;
 mod timing;
 
-use streams::{sets, SIZES};
+use streams::{night, sets, SIZES};
 
 fn main() {
     let named: Vec<String> = std::env::args().skip(1).collect();
-    let mut parts = Vec::from(codes::parts());
-    parts.retain(|part| named.is_empty() || named.iter().any(|name| part.name == name));
-    let sets = sets();
+    let asked = |part: &str| named.is_empty() || named.iter().any(|name| name == part);
+    let (sets, night) = (sets(), night());
     compare::assert_equal(&sets);
+    compare_reader::assert_night(&night);
+    compare_places::assert_equal(&sets, &night);
     compare_lookup::assert_equal(&sets);
     compare_rescue::assert_equal(&sets);
     if named.iter().any(|name| name == "answers") {
         return;
     }
+    let parts: Vec<_> = codes::parts().into_iter().filter(|part| asked(part.name)).collect();
     if !parts.is_empty() {
         timing::tables(&parts, &sets, &SIZES, rounds::wanted());
     }
-    if named.is_empty() || named.iter().any(|name| name == "slow") {
+    if asked("night") {
+        night::table(&codes::reader(), night, rounds::wanted());
+    }
+    if asked("slow") {
         slow::tables();
     }
 }

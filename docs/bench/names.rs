@@ -11,7 +11,7 @@ mod rules;
 
 use random::Random;
 use rounds::{best, heading, ratios, row};
-use rules::{before_wrong, own_data};
+use rules::{before_wrong, own_data, RANGES};
 use std::collections::BTreeSet;
 use std::hint::black_box;
 use std::process::ExitCode;
@@ -30,7 +30,7 @@ const TEMPLATE: u8 = 5;
 
 #[inline(always)]
 fn inlined(data: &[u8], answer: &mut Answer) -> u64 {
-    let taken = own_data(TEMPLATE, data);
+    let taken = own_data::<RANGES>(TEMPLATE, data);
     answer[0] = taken.unwrap_or_else(|| before_wrong(TEMPLATE, data)) as u64;
     taken.map_or(9, |_| 0)
 }
@@ -131,7 +131,7 @@ fn tables(codes: &[Code], sets: &[Set], rounds: usize) {
     let (mut to_plain, mut to_before, mut costs) = (Vec::new(), Vec::new(), Vec::new());
     for sets in sets.chunks_exact(LENGTHS.len()) {
         let times = sets.iter().map(|set| {
-            rounds::time(codes.len(), rounds, BYTES, |code| {
+            rounds::time(codes.len(), rounds, rounds::AGAIN, BYTES, |code| {
                 black_box((codes[code].run)(black_box(set)));
             })
         });

@@ -4,6 +4,7 @@
 use crate::archive::ENTRY;
 use crate::rules::{
     action_allowed, before_wrong, opens, own_data, prefix, root, root_kind, Handed, Prefix, Progress, Stop, Unit,
+    RANGES,
 };
 
 struct Open {
@@ -20,7 +21,7 @@ impl Open {
 
 /// Rules 3 to 9 for the unit at `start`, nested in `open`, which has then had it.
 #[inline(always)]
-fn nested(stream: &[u8], start: usize, open: &mut Open) -> Result<Unit, Stop> {
+fn nested<const BY: bool>(stream: &[u8], start: usize, open: &mut Open) -> Result<Unit, Stop> {
     let stop = |number| Stop { number, offset: start };
     let rest = &stream[start..open.end];
     let Prefix { length, action, id } = prefix(rest, false).map_err(stop)?;
@@ -32,14 +33,14 @@ fn nested(stream: &[u8], start: usize, open: &mut Open) -> Result<Unit, Stop> {
     }
     let data = &rest[6..length];
     let wrong = || Stop { number: 9, offset: start + 6 + before_wrong(id, data) };
-    let taken = own_data(id, data).ok_or_else(wrong)?;
+    let taken = own_data::<BY>(id, data).ok_or_else(wrong)?;
     open.progress.add(id);
     Ok(Unit { id, action, start, own: start + 6 + taken, end: start + length })
 }
 
 #[inline(never)]
 fn nested_out_of_line(stream: &[u8], start: usize, open: &mut Open) -> Result<Unit, Stop> {
-    nested(stream, start, open)
+    nested::<RANGES>(stream, start, open)
 }
 
 /// Whether the code for one unit (NEXT, or in the check the rules of a nested unit) is inlined into the loop or stays a
@@ -57,7 +58,8 @@ pub fn check<const CALLS: bool>(stream: &[u8]) -> Result<usize, Stop> {
 fn inside<const CALLS: bool>(stream: &[u8], mut open: Open, mut at: usize) -> Result<usize, Stop> {
     let mut units = 1;
     while at < open.end {
-        let unit = if CALLS { nested_out_of_line(stream, at, &mut open)? } else { nested(stream, at, &mut open)? };
+        let unit =
+            if CALLS { nested_out_of_line(stream, at, &mut open)? } else { nested::<RANGES>(stream, at, &mut open)? };
         units += if opens(unit.id) { inside::<CALLS>(stream, Open::new(&unit), unit.own)? } else { 1 };
         at = unit.end;
     }
@@ -72,7 +74,8 @@ fn inside<const CALLS: bool>(stream: &[u8], mut open: Open, mut at: usize) -> Re
 #[inline(always)]
 pub fn in_group<const CALLS: bool>(bytes: &[u8], start: usize) -> Option<usize> {
     let group = &mut Open { progress: Progress::new(4), start: 0, end: bytes.len() };
-    let unit = if CALLS { nested_out_of_line(bytes, start, group) } else { nested(bytes, start, group) }.ok()?;
+    let unit =
+        if CALLS { nested_out_of_line(bytes, start, group) } else { nested::<RANGES>(bytes, start, group) }.ok()?;
     // All that a group admits admit others.
     inside::<CALLS>(bytes, Open::new(&unit), unit.own).ok()?;
     Some(unit.end)
@@ -94,6 +97,11 @@ impl<'a> Reader<'a> {
 
     #[inline(always)]
     pub fn next(&mut self) -> Result<Handed, Stop> {
+        self.next_by::<RANGES>()
+    }
+
+    #[inline(always)]
+    fn next_by<const BY: bool>(&mut self) -> Result<Handed, Stop> {
         while let Some(open) = self.open.last() {
             if open.end != self.position {
                 break;
@@ -108,7 +116,7 @@ impl<'a> Reader<'a> {
             return Err(Stop { number: 1, offset: 0 });
         };
         let rank = open.progress.nested();
-        let unit = nested(self.stream, self.position, open)?;
+        let unit = nested::<BY>(self.stream, self.position, open)?;
         if opens(unit.id) {
             self.open.push(Open::new(&unit));
             self.position = unit.own;
@@ -142,14 +150,14 @@ pub fn fold_stop(fold: u64, stop: &Stop) -> u64 {
 }
 
 /// FIRST and all NEXTs, folded.
-pub fn walk<const CALLS: bool>(stream: &[u8]) -> u64 {
+pub fn walk<const CALLS: bool, const BY: bool>(stream: &[u8]) -> u64 {
     let (mut reader, root) = match Reader::first(stream) {
         Ok(begun) => begun,
         Err(stop) => return fold_stop(0, &stop),
     };
     let mut fold = fold_unit(0, &root);
     loop {
-        match if CALLS { reader.next_out_of_line() } else { reader.next() } {
+        match if CALLS { reader.next_out_of_line() } else { reader.next_by::<BY>() } {
             Ok(handed) => fold = fold_unit(fold, &handed),
             Err(stop) => return fold_stop(fold, &stop),
         }

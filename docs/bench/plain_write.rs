@@ -2,7 +2,7 @@
 //! listing's text grows in a `Vec` that has room for any, so no line asks whether it fits.
 
 use crate::plain::{check, Reader, OUT_OF_LINE};
-use crate::rules::{action_allowed, opens, own_data, root_kind, Progress, Unit};
+use crate::rules::{action_allowed, opens, own_data, root_kind, Progress, Unit, RANGES};
 
 const LIMIT: usize = 65_535;
 const PREFIX: usize = 6;
@@ -47,7 +47,7 @@ impl<'a> Builder<'a> {
         if !action_allowed(id, action) {
             return Err(8);
         }
-        let own = own_data(id, data).ok_or(9)?;
+        let own = own_data::<RANGES>(id, data).ok_or(9)?;
         if opens(id) && own != data.len() {
             return Err(9);
         }

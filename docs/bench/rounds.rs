@@ -7,20 +7,22 @@ pub fn wanted() -> usize {
     std::env::var("ROUNDS").map_or(1000, |text| text.parse().expect("ROUNDS is a number"))
 }
 
-/// The times of each code in each round, in nanoseconds a byte; `run` runs one code over all the bytes. A round runs all
-/// codes, each time beginning with another, so that a slow moment of the machine meets all alike.
+/// How often a code runs over a set in a round: one that is read for the first time is not what is measured there.
+pub const AGAIN: usize = 5;
+
+/// The times of each code in each round, in nanoseconds a byte; `run` runs one code over all the bytes, so many times. A round
+/// runs all codes, each time beginning with another, so that a slow moment of the machine meets all alike.
 #[inline(always)]
-pub fn time(codes: usize, rounds: usize, bytes: usize, mut run: impl FnMut(usize)) -> Vec<Vec<f64>> {
-    const RUNS: usize = 5;
+pub fn time(codes: usize, rounds: usize, runs: usize, bytes: usize, mut run: impl FnMut(usize)) -> Vec<Vec<f64>> {
     let mut times = vec![vec![0.0; rounds]; codes];
     for round in 0..rounds {
         for turn in 0..codes {
             let code = (round + turn) % codes;
             let begin = Instant::now();
-            for _ in 0..RUNS {
+            for _ in 0..runs {
                 run(code);
             }
-            times[code][round] = begin.elapsed().as_nanos() as f64 / RUNS as f64 / bytes as f64;
+            times[code][round] = begin.elapsed().as_nanos() as f64 / runs as f64 / bytes as f64;
         }
     }
     times

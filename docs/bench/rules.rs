@@ -96,15 +96,32 @@ pub fn action_allowed(id: u8, action: u8) -> bool {
     }
 }
 
+/// How a byte of a name is judged: by the ranges of the rule, or by a row that has them worked out for each of the 256.
+pub const RANGES: bool = false;
+pub const ROW: bool = true;
+
+const fn in_name(byte: u8) -> bool {
+    matches!(byte, b'A'..=b'Z' | b'0'..=b'9' | b'_')
+}
+
+static IN_NAME: [bool; 256] = {
+    let (mut row, mut byte) = ([false; 256], 0);
+    while byte < 256 {
+        row[byte] = in_name(byte as u8);
+        byte += 1;
+    }
+    row
+};
+
 /// The bytes that a name takes at the front of `data`, its count byte included.
 #[inline(always)]
-fn name(data: &[u8]) -> Option<usize> {
+fn name<const BY: bool>(data: &[u8]) -> Option<usize> {
     let count = *data.first()? as usize;
     if !(1..=32).contains(&count) {
         return None;
     }
     let text = data.get(1..1 + count)?;
-    let allowed = |byte: &u8| matches!(byte, b'A'..=b'Z' | b'0'..=b'9' | b'_');
+    let allowed = |byte: &u8| if BY == ROW { IN_NAME[*byte as usize] } else { in_name(*byte) };
     if text[0].is_ascii_uppercase() && text.iter().all(allowed) {
         Some(1 + count)
     } else {
@@ -114,10 +131,10 @@ fn name(data: &[u8]) -> Option<usize> {
 
 /// The bytes that the name or the fixed numbers of a unit take, if its own data keeps its rule.
 #[inline(always)]
-pub fn own_data(id: u8, data: &[u8]) -> Option<usize> {
+pub fn own_data<const BY: bool>(id: u8, data: &[u8]) -> Option<usize> {
     match id {
-        2 | 5 | 11 => name(data),
-        3 | 8 => name(data).filter(|taken| data.len() - taken <= 4096),
+        2 | 5 | 11 => name::<BY>(data),
+        3 | 8 => name::<BY>(data).filter(|taken| data.len() - taken <= 4096),
         6 | 12 => (data.len() == 4).then_some(4),
         7 | 14 => (data.len() <= 4096).then_some(0),
         9 => (data.len() >= 4).then_some(4),

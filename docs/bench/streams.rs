@@ -1,4 +1,4 @@
-//! What the codes are compared on: streams of four kinds and three sizes, damaged copies of them, and samples K1 to K12.
+//! What the codes are compared on: streams of four kinds and three sizes, those of a night, and damaged copies of them.
 
 use crate::cases::Case;
 use crate::compare::case;
@@ -111,6 +111,13 @@ pub fn sets() -> Vec<Set> {
     sets
 }
 
+/// The streams of a night: so many different ones of small fields, of about 60,000 bytes each.
+pub fn night() -> Vec<Vec<u8>> {
+    const STREAMS: usize = 200;
+    let random = &mut Random::new(2_026);
+    (0..STREAMS).map(|_| fields(random, 60_000)).collect()
+}
+
 /// A copy of a stream with these units, damaged in one or two places so that every refusal is met.
 pub fn damaged(stream: &[u8], units: &[Unit], random: &mut Random) -> Vec<u8> {
     let mut bytes = stream.to_vec();
@@ -179,43 +186,4 @@ fn insert(stream: &[u8], units: &[Unit], behind: &Unit, more: &[u8]) -> Vec<u8> 
 
 fn set_length(bytes: &mut [u8], start: usize, length: usize) {
     bytes[start + 2..start + 4].copy_from_slice(&(length as u16).to_be_bytes());
-}
-
-/// A sample of document 01, and the check's answer, for K11 by request b of document 02: 0 with the count of units, or the
-/// refusal and its offset. Of a refused one, by requests a and c of document 02, id and start of the units open there and the
-/// ids that may stand there.
-pub struct Sample {
-    pub name: &'static str,
-    pub bytes: Vec<u8>,
-    pub answer: (u64, u64),
-    pub open: &'static [(u64, u64)],
-    pub ids: &'static [u64],
-}
-
-pub fn samples() -> [Sample; 12] {
-    const K1: &[u8] = b"\xCD\xF1\x00\x10\x00\x0D\xCD\xF1\x00\x0A\x00\x0E\xC3\x89va";
-    const K2: &[u8] = b"\xCD\xF1\x00\x2E\x00\x04\xCD\xF1\x00\x28\x01\x05\x06PERSON\
-        \xCD\xF1\x00\x0A\x00\x06\x00\x00\x00\x01\xCD\xF1\x00\x11\x01\x08\x07SURNAME\xC3\x85s";
-    const K12: &[u8] = b"\xCD\xF1\x00\x12\x00\x01\xCD\xF1\x00\x0C\x00\x02\x05MERGE";
-    const ROOTS: &[u64] = &[1, 4, 13];
-    let sample = |name, bytes: &[u8], answer, open, ids| Sample { name, bytes: bytes.to_vec(), answer, open, ids };
-    let changed = |name, of: &[u8], place: usize, byte: u8, answer, open, ids| {
-        let mut bytes = of.to_vec();
-        bytes[place] = byte;
-        Sample { name, bytes, answer, open, ids }
-    };
-    [
-        sample("K1", K1, (0, 2), &[], &[]),
-        sample("K2", K2, (0, 4), &[], &[]),
-        sample("K3", b"", (3, 0), &[], ROOTS),
-        sample("K4", b"\xCD\xF1\x00\x06\x00\x0D", (10, 0), &[(13, 0)], &[14]),
-        changed("K5", K1, 3, 0x0F, (5, 0), &[], ROOTS),
-        changed("K6", K1, 9, 0x0B, (5, 6), &[(13, 0)], &[14]),
-        changed("K7", K1, 9, 0x09, (3, 15), &[(13, 0)], &[14]),
-        changed("K8", K2, 9, 0x17, (7, 29), &[(4, 0)], &[5, 9, 10]),
-        changed("K9", K2, 1, 0xF0, (4, 0), &[], ROOTS),
-        changed("K10", K2, 33, 0x00, (8, 29), &[(4, 0), (5, 6)], &[8]),
-        changed("K11", K2, 13, 0x31, (9, 13), &[(4, 0)], &[5, 9, 10]),
-        sample("K12", K12, (0, 2), &[], &[]),
-    ]
 }

@@ -13,7 +13,7 @@ fn time(part: &Part, set: &Set, rounds: usize) -> Vec<Vec<f64>> {
     let codes = &part.codes;
     let bytes = set.cases.iter().map(part.bytes).sum();
     let scratch = &mut Scratch::new();
-    rounds::time(codes.len(), rounds, bytes, |code| {
+    rounds::time(codes.len(), rounds, rounds::AGAIN, bytes, |code| {
         for case in &set.cases {
             black_box((codes[code].run)(black_box(case), black_box(&mut *scratch)));
         }
@@ -64,7 +64,7 @@ pub fn tables(parts: &[Part], sets: &[Set], sizes: &[usize], rounds: usize) {
     );
     println!("{}", to_plain.join("\n"));
     if !by.is_empty() {
-        println!("\nby another code of the same archive on the same streams, ratios as above\n");
+        println!("\nby another code on the same streams, ratios as above\n");
         println!("{}\n{}", heading(&by_size("")), by.join("\n"));
     }
     println!("\nof all codes: best times in nanoseconds a byte, and as a ratio to that of the longest streams\n");

@@ -36,7 +36,7 @@ static const constant CALLS[] = {IS(CDF_CALL_START), IS(CDF_CALL_NEXT), IS(CDF_C
                                  IS(CDF_CALL_PREVIOUS), {NULL, 0}};
 static const constant LENGTHS[] = {
     IS(CDF_VERSION), IS(CDF_EXPLAIN_NUMBERS), IS(CDF_LOOKUP_NUMBERS), IS(CDF_RESCUE_NUMBERS), IS(CDF_PLACE_NUMBERS), IS(CDF_ANSWER_NUMBERS),
-    IS(CDF_ENTRY_NUMBERS), IS(CDF_BUILD_PLACE_NUMBERS), IS(CDF_LISTING_ROOM), {NULL, 0}};
+    IS(CDF_ENTRY_NUMBERS), IS(CDF_UNIT_NUMBERS), IS(CDF_UNITS_NUMBERS), IS(CDF_BUILD_PLACE_NUMBERS), IS(CDF_LISTING_ROOM), {NULL, 0}};
 
 static void stop(const char *why, const char *what) {
     fprintf(stderr, "header: %s %s\n", why, what);

@@ -7,6 +7,7 @@
 GUARDED(place, CDF_PLACE_NUMBERS);
 GUARDED(answer, CDF_ANSWER_NUMBERS);
 GUARDED(one, 1);
+GUARDED(batch, CDF_UNITS_NUMBERS);
 GUARDED(explanation, CDF_EXPLAIN_NUMBERS);
 GUARDED(found, CDF_LOOKUP_NUMBERS);
 GUARDED(rescued, CDF_RESCUE_NUMBERS);
@@ -16,7 +17,7 @@ static bytes stream, buffer;
 static int done;
 
 static void returned(const char *function, uint64_t is) {
-    if (!(KEPT(place) && KEPT(answer) && KEPT(one) && KEPT(explanation) && KEPT(found) && KEPT(rescued) && KEPT(building)))
+    if (!(KEPT(place) && KEPT(answer) && KEPT(one) && KEPT(batch) && KEPT(explanation) && KEPT(found) && KEPT(rescued) && KEPT(building)))
         stop("written outside an array:", function);
     printf("%s ", function);
     tell(NUMBERS, is);
@@ -176,6 +177,30 @@ static void replay(void) {
     free(log), free(calls.is);
 }
 
+/* A list of so many numbers, and one more behind it. */
+static void units(void) {
+    size_t numbers = value(LENGTHS, word());
+    uint64_t *list = (uint64_t *)malloc((numbers + 1) * sizeof *list);
+    if (!list) stop("no", "memory");
+    clear(list, numbers + 1);
+    returned("cdf_units", cdf_units(stream.is, stream.length, place.is, numbers ? list : NULL, numbers, batch.is));
+    TELL(batch.is, CDF_UNITS_OFFSET);
+    TELL(batch.is, CDF_UNITS_COUNT);
+    for (uint64_t i = 0; i < batch.is[CDF_UNITS_COUNT]; i++) {
+        const uint64_t *unit = list + CDF_UNIT_NUMBERS * i;
+        TELL_AS(IDS, unit, CDF_UNIT_ID);
+        TELL_AS(ACTIONS, unit, CDF_UNIT_ACTION);
+        TELL(unit, CDF_UNIT_START);
+        TELL(unit, CDF_UNIT_OWN_END);
+        TELL(unit, CDF_UNIT_END);
+        TELL(unit, CDF_UNIT_DEPTH);
+        TELL(unit, CDF_UNIT_RANK);
+    }
+    for (size_t i = CDF_UNIT_NUMBERS * batch.is[CDF_UNITS_COUNT]; i <= numbers; i++)
+        if (list[i] != UNWRITTEN) stop("written behind the units of", "cdf_units");
+    free(list);
+}
+
 /* The builder's place from words: bytes written, count, and state and start of each slot. */
 static void set_building(void) {
     uint64_t *p = building.is;
@@ -210,7 +235,7 @@ static void run(const char *call) {
     uint64_t before[CDF_PLACE_NUMBERS], building_before[CDF_BUILD_PLACE_NUMBERS];
     memcpy(before, place.is, sizeof before);
     memcpy(building_before, building.is, sizeof building_before);
-    CLEAR(answer.is), CLEAR(one.is), CLEAR(explanation.is), CLEAR(found.is), CLEAR(rescued.is);
+    CLEAR(answer.is), CLEAR(one.is), CLEAR(batch.is), CLEAR(explanation.is), CLEAR(found.is), CLEAR(rescued.is);
     if (IS_CALL(stream)) {
         free(stream.is);
         stream = in_hex();
@@ -237,6 +262,9 @@ static void run(const char *call) {
         list();
     } else if (IS_CALL(cdf_replay)) {
         replay();
+    } else if (IS_CALL(cdf_units)) {
+        units();
+        tell_place(before);
     } else if (READS(cdf_first) || READS(cdf_next) || READS(cdf_skip) || READS(cdf_get_stream) || READS(cdf_previous) ||
                READS(cdf_abnormal_end)) {
         tell_answer();
@@ -261,7 +289,7 @@ static void run(const char *call) {
 
 int main(void) {
     static char line[1 << 19];
-    SET(place), SET(answer), SET(one), SET(explanation), SET(found), SET(rescued), SET(building);
+    SET(place), SET(answer), SET(one), SET(batch), SET(explanation), SET(found), SET(rescued), SET(building);
     while (fgets(line, sizeof line, stdin)) {
         if (!strchr(line, '\n')) stop("a line is", "too long");
         run(strtok(line, " \n"));

@@ -1,5 +1,5 @@
--- The clauses of a builder's place on its open units, taken together for the outermost, and for each other with the one outside it. The
--- contracts of the single tests cite this file; the rule itself is `fits`.
+-- The clauses of a builder's place on its open units, taken together for the outermost, and for each other with the one outside it. No
+-- contract that is open to callers cites this file; the rule itself is `fits`.
 use Prim.Native.Nat.{_+_}
 use mathlib.Core.Bool.{Bool, _&&_}
 use mathlib.Core.List.{List}

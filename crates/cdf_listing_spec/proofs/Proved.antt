@@ -15,5 +15,6 @@ proved = record {
   k1-text = refl;
   k6-text = refl;
   short = short;
+  same-room = refl;
   roomy = roomy;
 }

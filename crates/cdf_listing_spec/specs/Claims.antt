@@ -30,5 +30,7 @@ pub record Claims : Type 0 where
       ≡ 0x72 ∷ 0x65 ∷ 0x66 ∷ 0x75 ∷ 0x73 ∷ 0x65 ∷ 0x64 ∷ 32 ∷ 0x35 ∷ 32 ∷ 0x61 ∷ 0x74 ∷ 32 ∷ 0x36 ∷ 10 ∷ []
   -- The text of any 65,536 bytes, or fewer, fits the program's buffer.
   pub short : (s : List ℕ) → length s ≤ 65536 → length (listingText (layoutOf First) s) ≤ textRoom
-  -- And that of any six bytes, or more, the room that goes by their number. (Of fewer it is a refusal, of 15 bytes or more.)
+  -- That room goes by the number of the bytes,
+  pub same-room : roomBy 65536 ≡ textRoom
+  -- and the text of any six of them, or more, fits the room that goes by it. (Of fewer it is a refusal of 15 bytes.)
   pub roomy : (s : List ℕ) → 6 ≤ length s → length (listingText (layoutOf First) s) ≤ roomBy (length s)

@@ -129,8 +129,8 @@ impl Place {
         answered(o)
     }
 
-    // NEXT without a test of the place, for loops: at a place that fits, as each is that a call returns with 0, it is NEXT (`advances`); at any
-    // other it may answer a number of its own.
+    // NEXT without a test of the place, for loops: at a place that fits, as each is that a call returns with 0, it is NEXT (`advances`). At the
+    // empty place it answers 1, and at any other it may answer 99.
     pub fn advance(self, s: &[u8]) -> Answer
         ensures is { λ r. ⌜ replyOf r ≡ advanced (layoutOf First) (now (s .entry)) (view self) ⌝ }
         ensures kept { λ r. ⌜ ((r .number ≡ 0 → ⊥) → r .place ≡ self) ⌝ }

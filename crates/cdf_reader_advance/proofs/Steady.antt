@@ -1,11 +1,11 @@
 -- At a place that fits a step can be done, so it is NEXT.
-use Prim.Native.Nat.{ℕ, suc, _+_, _*_, _-_, _≤_}
+use Prim.Native.Nat.{ℕ, suc, _+_, _-_, _≤_}
 use mathlib.Core.Path.{_≡_, refl, sym, ap, _∙_}
 use mathlib.Core.Bool.{Bool, true, false, cond, _&&_, _||_}
 use mathlib.Core.List.{List, [], _∷_, _++_}
 use native.Mathlib.Omega.{arith}
 use native.Mathlib.Nat.{mul-add}
-use borrow.Author.Tests.{eqb-true, eqb-false, ne-eqb, le-leb, lt-ltb}
+use borrow.Author.Tests.{eqb-true, eqb-false, le-leb, lt-ltb}
 use lib.Dec.{eqb}
 use lib.ListN.{length, take, drop}
 use Rattle.cdf_unit_table.specs.States.{opens}
@@ -15,13 +15,13 @@ use Rattle.cdf_unit_judge.specs.Judge.{judgeOf}
 use Rattle.cdf_unit_judge.specs.declared.Judged.{Judged}
 use Rattle.cdf_unit_judge.specs.declared.Judged.the-variants.{Fault, Found}
 use Rattle.cdf_unit_judge.proofs.Placed.{placed}
-use Rattle.cdf_unit_list.specs.Stack.{close, Step, done, refused, found, opened, entered, withState, stepIn, step}
+use Rattle.cdf_unit_list.specs.Stack.{close, entered, withState, stepIn, step}
 use Rattle.cdf_unit_list.specs.declared.Open.{Open}
 use Rattle.cdf_unit_list.proofs.Entering.{unitFrom}
 use Rattle.cdf_unit_list.proofs.Stepping.{step-inside, step-closes}
-use Rattle.cdf_reader_spec.specs.Place.{ReaderPlace, isEmpty, fits, positioned}
+use Rattle.cdf_reader_spec.specs.Place.{ReaderPlace, fits}
 use Rattle.cdf_reader_spec.specs.Closing.{unclosed}
-use Rattle.cdf_reader_spec.specs.Calls.{stepped, nextOf}
+use Rattle.cdf_reader_spec.specs.Calls.{nextOf}
 use Rattle.cdf_reader_spec.proofs.Fitting.{Kinds, Fitting, fitting}
 use Rattle.cdf_reader_spec.proofs.Opened.{kinds-bounded, at-most-four}
 use Rattle.cdf_reader_spec.proofs.Suffix.{suffix, ends-most, ends-least, starts-least}

@@ -2,7 +2,7 @@
 use Prim.Native.Nat.{ℕ, zero, suc, _+_, _-_, _≤_, _<_}
 use mathlib.Core.Path.{_≡_, refl, sym, ap, _∙_}
 use mathlib.Core.Bool.{Bool, true, false, cond, _&&_, false≢true}
-use mathlib.Core.List.{List, [], _∷_}
+use mathlib.Core.List.{List, []}
 use native.Mathlib.Omega.{arith}
 use borrow.Author.Tests.{eq-eqb, ne-eqb, leb-true, ltb-true}
 use lib.Dec.{leb, ltb}
@@ -26,7 +26,7 @@ use Rattle.cdf_reader_spec.specs.Slots.{openUnits}
 use Rattle.cdf_reader_spec.proofs.Counted.{length-open, split}
 use Rattle.cdf_reader_spec.specs.Closing.{unclosed}
 use Rattle.cdf_reader_spec.specs.Ranking.{nextRank}
-use Rattle.cdf_reader_spec.specs.Calls.{Reply, refuse, stepped}
+use Rattle.cdf_reader_spec.specs.Calls.{refuse, stepped}
 use Rattle.cdf_reader_close.proofs.Levels.{left-ranks}
 use Rattle.cdf_reader_close.proofs.Unclosed.{close-unclosed, stops}
 use Rattle.cdf_reader_cursor.specs.Outcomes.{cursorPlace, outcomeReply, refusal}

@@ -1,4 +1,4 @@
--- What a step knows of a cursor where it ranks a unit. No contract that is open to callers cites this file.
+-- What a step knows of a cursor where it ranks a unit.
 use Prim.Native.Nat.{ℕ, suc, _≤_, _<_}
 use mathlib.Core.Path.{_≡_}
 use lib.ListN.{length}

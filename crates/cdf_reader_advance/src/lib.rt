@@ -26,15 +26,18 @@ use cdf_unit_table::first_state;
 // No call gives this number.
 const NO_STEP: usize = 99;
 
+// No rank comes after this one.
+const HIGHEST: usize = 18446744073709551615;
+
 // Whether the position lies inside a unit, and the unit in n bytes: what is left of the unit is then a part of them.
-fn is_inside(o: Open, at: usize, n: usize) -> bool
+pub fn is_inside(o: Open, at: usize, n: usize) -> bool
     ensures { λ r. ⌜ r ≡ isInside n at o ⌝ }
 {
     (o.start < at) & ((at < o.end) & (o.end <= n))
 }
 
 // Whether the slots hold what is open behind a unit of this id, and the rank before it is below the position.
-fn has_room(left: usize, id: usize, before: usize, at: usize) -> bool
+pub fn has_room(left: usize, id: usize, before: usize, at: usize) -> bool
     ensures { λ r. ⌜ r ≡ (leb (cond (opens id) (suc left) left) 4 && ltb before at) ⌝ }
 {
     let first = first_state(id);
@@ -45,12 +48,11 @@ fn has_room(left: usize, id: usize, before: usize, at: usize) -> bool
 }
 
 // The rank before the next unit's, where so many units are left: of the outermost that closes, else of the last one.
-fn rank_before(c: Cursor, left: usize) -> usize
-    requires { ⌜ Leaves c left ⌝ }
-    ensures { λ r. ⌜ suc r ≡ rankOn (cursorPlace c) ⌝ }
+pub fn rank_before(c: Cursor, left: usize) -> usize
+    ensures { λ r. ⌜ (Leaves c left → suc r ≡ rankOn (cursorPlace c)) ⌝ }
 {
     let ranks = c.ranks;
-    if left == c.count {
+    if c.count <= left {
         return ranks.last;
     }
     let level = left + 1;
@@ -59,10 +61,12 @@ fn rank_before(c: Cursor, left: usize) -> usize
 
 // How the unit at the position ranks: after the outermost unit that closes there, else in the last unit, if that is the innermost by its
 // start, and else after it.
-fn next_rank(c: Cursor, left: usize, before: usize) -> usize
-    requires { ⌜ Following c left before ⌝ }
-    ensures { λ r. ⌜ r ≡ nextRank (cursorPlace c) ⌝ }
+pub fn next_rank(c: Cursor, left: usize, before: usize) -> usize
+    ensures { λ r. ⌜ (Following c left before → r ≡ nextRank (cursorPlace c)) ⌝ }
 {
+    if before == HIGHEST {
+        return HIGHEST;
+    }
     let after = before + 1;
     if left < c.count {
         return after;

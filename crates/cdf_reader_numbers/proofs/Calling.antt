@@ -24,7 +24,7 @@ use Rattle.cdf_reader_numbers.proofs.Written.{read-again}
 
 module _ (s : List ℕ) (v : ReaderPlace) where
   -- The part goes by the call's number.
-  taken-is : (c : Call) →
+  pub taken-is : (c : Call) →
       partTaken (layoutOf First) s v c ≡ partBy c (callOf (layoutOf First) s v c .number) (v .last .start) (v .last .end)
   unfolding partTaken
   taken-is Start = refl

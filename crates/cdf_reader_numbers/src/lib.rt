@@ -19,7 +19,7 @@ struct Span {
 }
 
 // The place that the numbers are.
-fn place_from(a: &[u64; 25]) -> Place
+pub fn place_from(a: &[u64; 25]) -> Place
     ensures { λ r. ⌜ r ≡ placeFrom (now (a .entry)) ⌝ }
 {
     let top = Open {
@@ -80,7 +80,7 @@ fn flag(on: bool) -> u64
 }
 
 // Writes the numbers of a place.
-fn write_place(p: Place, a: &mut [u64; 25])
+pub fn write_place(p: Place, a: &mut [u64; 25])
     ensures { λ r. ⌜ now (a .exit) ≡ numbersOf p ⌝ }
 {
     let fresh = flag(p.fresh);

@@ -2,7 +2,7 @@
 use Prim.Native.Nat.{ℕ, suc, _+_, _*_, _≤_}
 use mathlib.Core.List.{List, [], _∷_}
 use native.Mathlib.Omega.{arith}
-use native.Mathlib.Nat.{suc-mul, mul-add}
+use native.Mathlib.Nat.{suc-mul}
 use borrow.Author.Tests.{leb-true}
 use lib.Dec.{leb}
 use Rattle.cdf_unit_table.proofs.Bools.{both, of-cond}
@@ -42,10 +42,3 @@ next-stands l n p f =
     after-next l (p .position) (p .units) (p .ranks) _ (f .ranks)
     (of-cond (Next l (p .position)) (innermostAt (p .units) (p .last .start)) 0 (suc (p .lastRank)) (λ e. omega arith)
     (λ e. one-more l (p .position) (p .lastRank) (f .lastRank)))
-
--- So it is no higher than where a unit's prefix would end.
-factor : (l : Layout) (k m : ℕ) → k * prefixOf l ≤ m → k ≤ m
-factor l k m h = let e = mul-add k 4 (l .lengthBytes) in omega arith
-
-pub next-most : (l : Layout) (n : ℕ) (p : ReaderPlace) → Fitting l n p → nextRank p ≤ p .position + prefixOf l
-next-most l n p f = factor l (nextRank p) (p .position + prefixOf l) (next-stands l n p f)

@@ -5,6 +5,10 @@
 pub type Place = [u64; 25];
 /// The numbers of a reader's answer, `CDF_ANSWER_NUMBERS`.
 pub type Answer = [u64; 10];
+/// The numbers of a unit in a list, `CDF_UNIT_NUMBERS`.
+pub type ListedUnit = [u64; 7];
+/// The numbers of the answer to a call for many units, `CDF_UNITS_NUMBERS`.
+pub type Batch = [u64; 2];
 /// The numbers of an explanation, `CDF_EXPLAIN_NUMBERS`.
 pub type Explained = [u64; 25];
 /// The numbers of a lookup's answer, `CDF_LOOKUP_NUMBERS`.
@@ -17,7 +21,7 @@ pub type BuildPlace = [u64; 10];
 pub const LISTING_ROOM: usize = 207_527;
 
 mod archive {
-    use super::{Answer, BuildPlace, Explained, Found, Place, Rescued};
+    use super::{Answer, Batch, BuildPlace, Explained, Found, Place, Rescued};
 
     extern "C" {
         pub fn cdf_version() -> u64;
@@ -39,10 +43,17 @@ mod archive {
         ) -> u64;
         pub fn cdf_rescue(stream: *const u8, length: usize, out: *mut u8, out_length: usize, answer: &mut Rescued) -> u64;
         pub fn cdf_first(stream: *const u8, length: usize, place: &mut Place, answer: &mut Answer) -> u64;
-        pub fn cdf_next(stream: *const u8, length: usize, place: &mut Place, answer: &mut Answer) -> u64;
         pub fn cdf_skip(stream: *const u8, length: usize, place: &mut Place, answer: &mut Answer) -> u64;
         pub fn cdf_get_stream(stream: *const u8, length: usize, place: &mut Place, answer: &mut Answer) -> u64;
         pub fn cdf_previous(stream: *const u8, length: usize, place: &mut Place, answer: &mut Answer) -> u64;
+        pub fn cdf_units(
+            stream: *const u8,
+            length: usize,
+            place: &mut Place,
+            list: *mut u64,
+            list_length: usize,
+            answer: &mut Batch,
+        ) -> u64;
         pub fn cdf_listing(stream: *const u8, length: usize, text: *mut u8, text_length: usize, answer: &mut [u64; 1]) -> u64;
         pub fn cdf_build_first(buffer: *mut u8, buffer_length: usize, root: u64, place: &mut BuildPlace) -> u64;
         pub fn cdf_build_next(
@@ -121,7 +132,6 @@ pub fn rescue(stream: &[u8], out: &mut [u8]) -> (u64, Rescued) {
 #[derive(Clone, Copy)]
 pub enum Call {
     First,
-    Next,
     Skip,
     GetStream,
     Previous,
@@ -130,7 +140,6 @@ pub enum Call {
 pub fn read(call: Call, stream: &[u8], place: &mut Place) -> (u64, Answer) {
     let function = match call {
         Call::First => archive::cdf_first,
-        Call::Next => archive::cdf_next,
         Call::Skip => archive::cdf_skip,
         Call::GetStream => archive::cdf_get_stream,
         Call::Previous => archive::cdf_previous,
@@ -138,6 +147,14 @@ pub fn read(call: Call, stream: &[u8], place: &mut Place) -> (u64, Answer) {
     let mut answer = [0; 10];
     // SAFETY: as above.
     let number = unsafe { function(stream.as_ptr(), stream.len(), place, &mut answer) };
+    (number, answer)
+}
+
+/// As many units as the list has room for, each as if by NEXT: the number, the offset, and how many.
+pub fn units(stream: &[u8], place: &mut Place, list: &mut [ListedUnit]) -> (u64, Batch) {
+    let (mut answer, list) = ([0; 2], list.as_flattened_mut());
+    // SAFETY: as above.
+    let number = unsafe { archive::cdf_units(stream.as_ptr(), stream.len(), place, list.as_mut_ptr(), list.len(), &mut answer) };
     (number, answer)
 }
 

@@ -57,8 +57,9 @@ impl Id {
     ];
 
     /// The unit of this number, if there is one.
+    #[inline]
     pub fn from_number(number: u64) -> Option<Id> {
-        Id::ALL.into_iter().find(|id| id.number() == number)
+        Id::ALL.get(usize::try_from(number).ok()?.checked_sub(1)?).copied()
     }
 
     /// The number that stands in a stream.
@@ -134,8 +135,9 @@ impl Action {
     pub const ALL: [Action; 5] = [Action::None, Action::Create, Action::Read, Action::Update, Action::Delete];
 
     /// The action of this number, if there is one.
+    #[inline]
     pub fn from_number(number: u64) -> Option<Action> {
-        Action::ALL.into_iter().find(|action| action.number() == number)
+        Action::ALL.get(usize::try_from(number).ok()?).copied()
     }
 
     /// The number that stands in a stream.

@@ -127,6 +127,88 @@ fn skipping_taking_and_repeating() {
     assert_eq!(cdf::check(taken), Ok(8));
 }
 
+/// A stream of calls with parameters: a fault, a skip or a group may stand anywhere between units that are read together.
+fn many_calls() -> Vec<u8> {
+    let mut buffer = vec![0; 20_000];
+    let mut stream = Builder::new(&mut buffer, Root::Stream).unwrap();
+    for at in 0..90_usize {
+        stream.call("MERGE").unwrap();
+        for _ in 0..at % 4 {
+            stream.parameter("MODE", &vec![b'x'; at % 5]).unwrap();
+        }
+        if at % 7 == 3 {
+            stream.add_stream(&group()).unwrap();
+        }
+    }
+    stream.finish().unwrap().to_vec()
+}
+
+/// However many units are read together, a call in between answers as it would right after the unit: the units that follow a skip are those
+/// that do not lie in what was skipped.
+#[test]
+fn calls_between_units_do_not_depend_on_what_is_read_ahead() {
+    let stream = many_calls();
+    let all: Vec<_> = Reader::new(&stream).collect::<Result<_, _>>().unwrap();
+    assert_eq!(Ok(all.len()), cdf::check(&stream));
+    for first in 0..all.len() {
+        for second in [0, 1, 2, 5, 31, 64] {
+            let mut reader = Reader::new(&stream);
+            let mut seen: Vec<_> = reader.by_ref().take(first + 1).map(Result::unwrap).collect();
+            let last = all[first];
+            assert_eq!(reader.previous(), Ok(last));
+            let holds = matches!(last.id(), Id::Stream | Id::Call | Id::ErGroup | Id::Template | Id::OrderedRelation | Id::EntityKey);
+            let from = match (second % 2, last.id()) {
+                (0, Id::ErGroup) => {
+                    assert_eq!(reader.take_group(), Ok(last.bytes()));
+                    last.end()
+                }
+                (0, _) => {
+                    assert_eq!(reader.take_group(), Err(NOTHING));
+                    last.start() + 1
+                }
+                _ => {
+                    assert_eq!(reader.skip_unit(), if holds { Ok(()) } else { Err(NOTHING) });
+                    if holds {
+                        last.end()
+                    } else {
+                        last.start() + 1
+                    }
+                }
+            };
+            assert_eq!(reader.previous(), Ok(last));
+            let mut again = reader.clone();
+            let rest: Vec<_> = all.iter().filter(|unit| unit.start() >= from).copied().collect();
+            seen.extend(again.by_ref().take(second).map(Result::unwrap));
+            let due: Vec<_> = all[..=first].iter().copied().chain(rest.iter().copied().take(second)).collect();
+            assert_eq!(seen, due);
+            assert_eq!(again.previous().ok().as_ref(), due.last());
+            assert_eq!(again.map(Result::unwrap).count(), rest.len().saturating_sub(second));
+            assert!(reader.map(Result::unwrap).eq(rest));
+        }
+    }
+}
+
+/// A fault is told once, right behind the units before it, and the last of these can still be asked for and skipped.
+#[test]
+fn a_fault_comes_behind_all_units_before_it() {
+    let whole = many_calls();
+    let all: Vec<_> = Reader::new(&whole).collect::<Result<_, _>>().unwrap();
+    for (at, unit) in all.iter().enumerate().skip(1) {
+        let mut stream = whole.clone();
+        stream[unit.start() + 5] = 99;
+        let mut reader = Reader::new(&stream);
+        assert!(reader.by_ref().take(at).map(Result::unwrap).map(|unit| unit.start()).eq(all[..at].iter().map(|unit| unit.start())));
+        let fault = Refusal { number: 6, offset: Some(unit.start()) };
+        assert_eq!(reader.next(), Some(Err(fault)));
+        assert_eq!((reader.next(), reader.next()), (None, None));
+        let last = reader.previous().unwrap();
+        assert_eq!((last.start(), last.depth(), last.rank()), (all[at - 1].start(), all[at - 1].depth(), all[at - 1].rank()));
+        let inside = unit.start() < last.end() || last.own_end() == last.end() && last.id() == Id::Call;
+        assert_eq!(reader.skip_unit().is_ok(), inside, "{last:?}");
+        assert_eq!(reader.next(), None, "nothing comes after a refusal");
+    }
+}
+
 #[test]
 fn what_is_skipped_is_not_looked_at() {
     let mut stream = calls(&group());

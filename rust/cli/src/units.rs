@@ -14,13 +14,11 @@ pub struct Units<'a> {
 
 impl<'a> Units<'a> {
     pub fn of(stream: &'a [u8]) -> Units<'a> {
-        let (mut all, mut next) = (Vec::new(), 0);
         let mut reader = Reader::new(stream);
-        while let Some(Ok(unit)) = reader.next() {
-            // A unit that can be skipped admits others, and they begin where its own data ends.
-            next = if reader.clone().skip_unit().is_ok() { unit.own_end() } else { unit.end() };
-            all.push(unit);
-        }
+        let all: Vec<Unit> = reader.by_ref().map_while(Result::ok).collect();
+        // A unit that can be skipped admits others, and they begin where its own data ends.
+        let behind = |last: &Unit| if reader.skip_unit().is_ok() { last.own_end() } else { last.end() };
+        let next = all.last().map_or(0, behind);
         Units { all, next }
     }
 

@@ -10,10 +10,10 @@ use borrow.Author.Tests.{not-true, not-false}
 use lib.ListN.{length}
 use Rattle.cdf_unit_prefix.specs.Layout.{layoutOf}
 use Rattle.cdf_unit_judge.specs.declared.Judged.the-variants.{Fault, Found}
-use Rattle.cdf_reader_cursor.specs.Outcomes.{outcomeReply}
+use Rattle.cdf_reader_cursor.specs.Outcomes.{cursorPlace, outcomeReply}
 use Rattle.cdf_reader_cursor.specs.Entering.{entering}
 use Rattle.cdf_reader_cursor.specs.declared.Outcome.{Outcome}
-use Rattle.cdf_reader_advance.specs.Advancing.{isInside}
+use Rattle.cdf_reader_advance.specs.Advancing.{isInside, rankOn}
 use Rattle.cdf_reader_advance.specs.Following.{Following}
 use Rattle.cdf_reader_advance.proofs.Stepped.{refuses, leaves, at-end, at-incomplete, outside, inside-fault, no-room, following, slots}
 use Rattle.cdf_reader_advance.proofs.Stepped.{enters-found, within, unit-within, fault-within}
@@ -128,10 +128,17 @@ enum-known-id : tie.Need-enum-known-id
 enum-known-id c = search needs
 
 rank-before-requires : tie.Need-rank-before-requires
-rank-before-requires c κs =
-    let shut = c .before .before .before .before .before .before .before .before .before .before .before in
+rank-before-requires c κs = search needs
+
+-- The rank before the next one's, where these units are left.
+before : (ranked : tie.After-rank-before) →
+    let shut = ranked .before .before .before .before .before .before .before .before .before .before .before .before in
     let a = shut .before .before .before .before .before .before .args in
-    leaves (layoutOf (a .edition)) (a .s .now) (a .c) _ _ (shut .close .ensures)
+    suc (ranked .rank-before .result) ≡ rankOn (cursorPlace (a .c))
+before ranked =
+    let shut = ranked .before .before .before .before .before .before .before .before .before .before .before .before in
+    let a = shut .before .before .before .before .before .before .args in
+    ranked .rank-before .ensures (leaves (layoutOf (a .edition)) (a .s .now) (a .c) _ _ (shut .close .ensures))
 
 has-room-requires : tie.Need-has-room-requires
 has-room-requires c κs = search needs
@@ -150,7 +157,7 @@ returns-4 c =
     let shut = some .before .before in
     refuses _ _ _ _ _ (c .refused5 .result) (c .refused5 .ensures)
     (no-room _ _ _ _ _ (shut .close .ensures) (some .if1 .left) (apart .if2 .left) (lies inside)
-    (sym (seen .judge .ensures) ∙ ranked .before .before .id .given .1) _ (ranked .rank-before .ensures)
+    (sym (seen .judge .ensures) ∙ ranked .before .before .id .given .1) _ (before ranked)
     (sym (asked .has-room .ensures) ∙ not-true (asked .has-room .result) (c .before .if4 .taken)))
 
 add-own-end : tie.Need-add-own-end
@@ -180,16 +187,16 @@ fitted roomy =
     let start = shut .before .before .before .before .before .before in
     let j = sym (seen .judge .ensures) ∙ ranked .before .before .id .given .1 in
     let room = sym (asked .has-room .ensures) ∙ not-false (asked .has-room .result) (roomy .if4 .left) in (
-      following _ _ _ _ _ (shut .close .ensures) (some .if1 .left) (apart .if2 .left) (lies inside) j _ (ranked .rank-before .ensures) room
+      following _ _ _ _ _ (shut .close .ensures) (some .if1 .left) (apart .if2 .left) (lies inside) j _ (before ranked) room
           (omega (arith, start .good .1 .1 .0 .1)),
-      slots _ _ _ _ _ (shut .close .ensures) (some .if1 .left) (apart .if2 .left) (lies inside) j _ (ranked .rank-before .ensures) room .1,
+      slots _ _ _ _ _ (shut .close .ensures) (some .if1 .left) (apart .if2 .left) (lies inside) j _ (before ranked) room .1,
     )
 
 add-depth : tie.Need-add-depth
 add-depth c = omega (arith, fitted (c .before) .1)
 
 next-rank-requires : tie.Need-next-rank-requires
-next-rank-requires c κs = fitted (c .before) .0
+next-rank-requires c κs = search needs
 
 enter-requires : tie.Need-enter-requires
 enter-requires c κs = search needs
@@ -221,8 +228,8 @@ returns-6 c =
     let count = shut .close .result .count in
     let deep : count + 1 ≡ suc count = omega arith in (
       ap outcomeReply (c .enter .ensures)
-          ∙ enters-found _ _ _ _ _ (shut .close .ensures) (some .if1 .left) (apart .if2 .left) (lies inside) j _ (ranked .rank-before .ensures)
-          room _ _ deep (c .before .next-rank .ensures),
+          ∙ enters-found _ _ _ _ _ (shut .close .ensures) (some .if1 .left) (apart .if2 .left) (lies inside) j _ (before ranked)
+          room _ _ deep (c .before .next-rank .ensures (fitted roomy .0)),
       λ some. absurd (some (ap (λ (r : Outcome). r .number) (c .enter .ensures))),
     )
 

@@ -9,27 +9,27 @@ use Rattle.cdf_reader_advance.proofs.next_rank.Tie as tie
 one-more : (n : ℕ) → n + 1 ≡ suc n
 one-more n = omega arith
 
-add-after : tie.Need-add-after
-add-after c = omega (arith, c .pre .low)
-
 returns : tie.Need-returns
-returns c =
-    let start = c .before .before in
-    let a = start .args in
-    one-more (a .before) ∙ start .pre .before ∙ sym (after-closed (a .c) (a .left) (start .pre .left) (c .if1 .taken))
+returns c = λ follow. absurd (omega (arith, follow .low, c .if1 .taken))
+
+add-after : tie.Need-add-after
+add-after c = omega (arith, c .if1 .left)
 
 returns-2 : tie.Need-returns-2
 returns-2 c =
-    let start = c .before .before .before .before in
-    let a = start .args in
-    sym (first-inside (a .c) (a .left) (start .pre .left) (c .before .before .if1 .left) (start .pre .some) (c .if2 .taken))
+    let a = c .before .before .before .args in
+    λ follow. one-more (a .before) ∙ follow .before ∙ sym (after-closed (a .c) (a .left) (follow .left) (c .if2 .taken))
 
 returns-3 : tie.Need-returns-3
 returns-3 c =
-    let start = c .before .before .before .before in
-    let a = start .args in
-    one-more (a .before) ∙ start .pre .before
-    ∙ sym (after-last (a .c) (a .left) (start .pre .left) (c .before .before .if1 .left) (start .pre .some) (c .if2 .left))
+    let a = c .before .before .before .before .before .args in
+    λ follow. sym (first-inside (a .c) (a .left) (follow .left) (c .before .before .if2 .left) (follow .some) (c .if3 .taken))
+
+returns-4 : tie.Need-returns-4
+returns-4 c =
+    let a = c .before .before .before .before .before .args in
+    λ follow. one-more (a .before) ∙ follow .before
+    ∙ sym (after-last (a .c) (a .left) (follow .left) (c .before .before .if2 .left) (follow .some) (c .if3 .left))
 
 pub next-rank-spec : {M : Type 1} → statement M
-next-rank-spec = tie.close (tie.spec add-after returns returns-2 returns-3)
+next-rank-spec = tie.close (tie.spec returns add-after returns-2 returns-3 returns-4)

@@ -1,2 +1,0 @@
-pub mod Replaying
-pub mod Proved

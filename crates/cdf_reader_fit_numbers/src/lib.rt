@@ -1,0 +1,135 @@
+// Whether a place could belong to some bytes, straight on the numbers that cross to C: only those are read that the count reaches.
+ghost use mathlib.Core.Path.{_≡_};
+ghost use Rattle.cdf_unit_prefix.specs.Layout.{layoutOf};
+ghost use Rattle.cdf_unit_prefix.specs.declared.Edition.the-variants.{First};
+ghost use Rattle.cdf_reader_spec.specs.Place.{fits};
+ghost use Rattle.cdf_reader.specs.View.{view};
+ghost use Rattle.cdf_reader_numbers.specs.Numbers.{placeFrom};
+ghost use Rattle.cdf_reader_fit_numbers.specs.Held.{held, lasts};
+use cdf_reader_kinds::is_fourfold;
+use cdf_reader_kinds::is_pair;
+use cdf_reader_kinds::is_triple;
+use cdf_reader_last::is_bounded;
+use cdf_reader_last::is_skippable;
+use cdf_reader_open::is_outermost;
+use cdf_reader_open::is_past;
+use cdf_unit_list::Open;
+use cdf_unit_list::Unit;
+use cdf_unit_prefix::Edition;
+
+// One open unit.
+fn holds_one(n: usize, most: usize, p: &[u64; 25]) -> bool
+    ensures { λ r. ⌜ r ≡ held n most (placeFrom (now (p .entry))) 1 ⌝ }
+{
+    let top = Open {
+        state: p[2] as usize,
+        start: p[3] as usize,
+        end: p[4] as usize,
+    };
+    is_outermost(n, top) & (p[20] as usize <= most)
+}
+
+// Two.
+fn holds_two(n: usize, most: usize, p: &[u64; 25]) -> bool
+    ensures { λ r. ⌜ r ≡ held n most (placeFrom (now (p .entry))) 2 ⌝ }
+{
+    if !is_pair(p[5] as usize, p[2] as usize) {
+        return false;
+    }
+    let inner = is_past(Edition::First, p[6] as usize, p[3] as usize) & (p[4] <= p[7]);
+    let outer = (p[6] as usize == 0) & (p[7] as usize == n);
+    (inner & outer) & ((p[20] as usize <= most) & (p[21] as usize <= most))
+}
+
+// Three.
+fn holds_three(n: usize, most: usize, p: &[u64; 25]) -> bool
+    ensures { λ r. ⌜ r ≡ held n most (placeFrom (now (p .entry))) 3 ⌝ }
+{
+    if !is_triple(p[5] as usize, p[8] as usize, p[2] as usize) {
+        return false;
+    }
+    let inner = is_past(Edition::First, p[9] as usize, p[3] as usize) & (p[4] <= p[10]);
+    let middle = is_past(Edition::First, p[6] as usize, p[9] as usize) & (p[10] <= p[7]);
+    let outer = (p[6] as usize == 0) & (p[7] as usize == n);
+    (inner & (middle & outer))
+        & ((p[20] as usize <= most) & ((p[22] as usize <= most) & (p[21] as usize <= most)))
+}
+
+// Four.
+fn holds_four(n: usize, most: usize, p: &[u64; 25]) -> bool
+    ensures { λ r. ⌜ r ≡ held n most (placeFrom (now (p .entry))) 4 ⌝ }
+{
+    if !is_fourfold(p[5] as usize, p[8] as usize, p[11] as usize, p[2] as usize) {
+        return false;
+    }
+    let inner = is_past(Edition::First, p[12] as usize, p[3] as usize) & (p[4] <= p[13]);
+    let third = is_past(Edition::First, p[9] as usize, p[12] as usize) & (p[13] <= p[10]);
+    let second = is_past(Edition::First, p[6] as usize, p[9] as usize) & (p[10] <= p[7]);
+    let outer = (p[6] as usize == 0) & (p[7] as usize == n);
+    (inner & (third & (second & outer)))
+        & ((p[20] as usize <= most)
+            & ((p[23] as usize <= most) & ((p[22] as usize <= most) & (p[21] as usize <= most))))
+}
+
+// So many as the count says.
+fn holds(n: usize, most: usize, p: &[u64; 25]) -> bool
+    ensures { λ r. ⌜ r ≡ held n most (placeFrom (now (p .entry))) (placeFrom (now (p .entry)) .count) ⌝ }
+{
+    let count = p[1];
+    if count == 1 {
+        return holds_one(n, most, p);
+    }
+    if count == 2 {
+        return holds_two(n, most, p);
+    }
+    if count == 3 {
+        return holds_three(n, most, p);
+    }
+    if count == 4 {
+        return holds_four(n, most, p);
+    }
+    false
+}
+
+// What is asked of the last unit: where it may be skipped, that it is the innermost and was just entered; its bounds only where it may not.
+fn is_last(n: usize, p: &[u64; 25]) -> bool
+    ensures { λ r. ⌜ r ≡ lasts n (placeFrom (now (p .entry))) ⌝ }
+{
+    let last = Unit {
+        id: p[14] as usize,
+        action: p[15] as usize,
+        start: p[16] as usize,
+        own: p[17] as usize,
+        end: p[18] as usize,
+    };
+    if p[19] == 0 {
+        return is_bounded(Edition::First, n, last);
+    }
+    let top = Open {
+        state: p[2] as usize,
+        start: p[3] as usize,
+        end: p[4] as usize,
+    };
+    is_skippable(true, p[0] as usize, top, last)
+}
+
+// Whether the place that these numbers are could belong to n bytes of the first edition.
+pub fn fits_at(n: usize, p: &[u64; 25]) -> bool
+    ensures { λ r. ⌜ r ≡ fits (layoutOf First) n (view (placeFrom (now (p .entry)))) ⌝ }
+{
+    let position = p[0] as usize;
+    if !is_past(Edition::First, p[3] as usize, position) {
+        return false;
+    }
+    if (p[4] as usize) < position {
+        return false;
+    }
+    if !is_last(n, p) {
+        return false;
+    }
+    let most = position / 6;
+    if most < p[24] as usize {
+        return false;
+    }
+    holds(n, most, p)
+}

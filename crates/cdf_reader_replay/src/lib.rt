@@ -1,0 +1,185 @@
+// A run of the reader's calls, by their codes, into a log. The loop keeps a cursor and tests no place: each that it holds is empty or was
+// returned with 0, and so fits.
+ghost use mathlib.Core.Path.{_≡_};
+ghost use mathlib.Core.List.{[], _∷_, _++_};
+ghost use Prim.Native.Nat.{_*_, _≤_};
+ghost use lib.ListN.{length, drop};
+ghost use Rattle.cdf_unit_prefix.specs.Layout.{layoutOf};
+ghost use Rattle.cdf_unit_prefix.specs.declared.Edition.the-variants.{First};
+ghost use Rattle.cdf_reader_spec.specs.Ranking.{depthAt};
+ghost use Rattle.cdf_reader_spec.specs.Calls.{callOf};
+ghost use Rattle.cdf_reader_cursor.specs.Outcomes.{cursorPlace, outcomeReply};
+ghost use Rattle.cdf_reader_numbers.specs.Taking.{partBy};
+ghost use Rattle.cdf_reader_replay.specs.Replay.{knownCode, callBy, ranOf, entryOf, logAfter, Replayed};
+ghost use Rattle.cdf_reader_replay.specs.Holding.{Held, toldOf};
+use cdf_reader_advance::advance;
+use cdf_reader_cursor::Cursor;
+use cdf_reader_cursor::Outcome;
+use cdf_reader_cursor::first_as;
+use cdf_reader_cursor::no_cursor;
+use cdf_reader_cursor::pass;
+use cdf_reader_cursor::refused;
+use cdf_reader_spec::Call;
+use cdf_reader_use::has_use;
+use cdf_unit_list::Ranked;
+use cdf_unit_prefix::Edition;
+
+// What a replay answers: the number, and how many entries it has written.
+pub struct Logged {
+    pub number: usize,
+    pub count: usize,
+}
+
+// A part of the stream.
+struct Span {
+    start: usize,
+    size: usize,
+}
+
+// Whether it is the code of a call.
+fn is_known(code: u8) -> bool
+    ensures { λ r. ⌜ r ≡ knownCode code ⌝ }
+{
+    (1 <= code) & (code <= 5)
+}
+
+// The call of a known code.
+fn call_by(code: u8) -> Call
+    ensures { λ r. ⌜ r ≡ callBy code ⌝ }
+{
+    if code == 1 {
+        return Call::Start;
+    }
+    if code == 2 {
+        return Call::Next;
+    }
+    if code == 3 {
+        return Call::Skip;
+    }
+    if code == 4 {
+        return Call::GetStream;
+    }
+    Call::Previous
+}
+
+// How deep the last unit of a place stands: it is the innermost by its start, or stands in that one.
+fn last_depth(c: Cursor) -> usize
+    requires { ⌜ (1 ≤ c .count) × (c .count ≤ 5) ⌝ }
+    ensures { λ r. ⌜ r ≡ depthAt (cursorPlace c) ⌝ }
+{
+    if c.top.start == c.last.start {
+        return c.count;
+    }
+    let deeper = c.count + 1;
+    deeper
+}
+
+// Any call at a place that the loop holds: 11, then what it does.
+fn turn(c: Cursor, call: Call, s: &[u8]) -> Outcome
+    requires { ⌜ Held (now s) c ⌝ }
+    ensures is { λ r. ⌜ outcomeReply r ≡ callOf (layoutOf First) (now (s .entry)) (cursorPlace c) call ⌝ }
+    ensures held { λ r. ⌜ Held (now (s .entry)) (r .cursor) ⌝ }
+{
+    if !has_use(call, c.count, c.fresh, c.last.id) {
+        return refused(11, 0, c);
+    }
+    match call {
+        Call::Start => first_as(Edition::First, s),
+        Call::Next => advance(c, Edition::First, s),
+        Call::Skip => pass(c),
+        Call::GetStream => pass(c),
+        Call::Previous => {
+            let unit = c.last;
+            let depth = last_depth(c);
+            let handed = Ranked {
+                unit,
+                depth,
+                rank: c.ranks.last,
+            };
+            Outcome {
+                number: 0,
+                offset: 0,
+                handed,
+                cursor: c,
+            }
+        }
+    }
+}
+
+// The part that goes with a code and its call's number, with the last unit's start and end. The test is one, and by the code: the loop is
+// faster so.
+fn part_of(code: u8, number: usize, start: usize, end: usize) -> Span
+    ensures { λ r. ⌜ record { start = r .start; size = r .size } ≡ partBy (callBy code) number start end ⌝ }
+{
+    if !((code == 4) & (number == 0)) {
+        return Span { start: 0, size: 0 };
+    }
+    if end < start {
+        return Span { start, size: 0 };
+    }
+    Span {
+        start,
+        size: end - start,
+    }
+}
+
+// Writes an entry to the front of what is left of the log.
+fn write_entry(tail: &mut [u64], o: Outcome, part: Span)
+    requires { ⌜ 11 ≤ length (now tail) ⌝ }
+    ensures { λ r. ⌜ now (tail .exit) ≡ entryOf (toldOf o part) ++ drop 11 (now (tail .entry)) ⌝ }
+{
+    let handed = o.handed;
+    let unit = handed.unit;
+    tail[0] = o.number as u64;
+    tail[1] = o.offset as u64;
+    tail[2] = part.start as u64;
+    tail[3] = part.size as u64;
+    tail[4] = unit.id as u64;
+    tail[5] = unit.action as u64;
+    tail[6] = unit.start as u64;
+    tail[7] = unit.own as u64;
+    tail[8] = unit.end as u64;
+    tail[9] = handed.depth as u64;
+    tail[10] = handed.rank as u64;
+}
+
+// Runs the calls one after the other, and writes an entry for each.
+fn run(s: &[u8], calls: &[u8], log: &mut [u64]) -> usize
+    requires { ⌜ 11 * length (now calls) ≤ length (now log) ⌝ }
+    ensures count { λ r. ⌜ r ≡ length (ranOf (now (s .entry)) (now (calls .entry))) ⌝ }
+    ensures written { λ r. ⌜ now (log .exit) ≡ logAfter (ranOf (now (s .entry)) (now (calls .entry))) (now (log .entry)) ⌝ }
+{
+    let mut c = no_cursor();
+    let mut k = 0;
+    let mut at = 0;
+    while k < calls.len() {
+        let code = calls[k];
+        if !is_known(code) {
+            return k;
+        }
+        let call = call_by(code);
+        let o = turn(c, call, s);
+        let part = part_of(code, o.number, c.last.start, c.last.end);
+        let end = log.len();
+        write_entry(&mut log[at..end], o, part);
+        c = o.cursor;
+        k = k + 1;
+        at = at + 11;
+    }
+    k
+}
+
+// A run of calls, by their codes: 1 start, 2 NEXT, 3 SKIP, 4 GET_STREAM, 5 PREVIOUS; a code that is none of these ends it. 12 if
+// the log could not hold an entry for each of them; else 0, and how many entries there are.
+pub fn replay(s: &[u8], calls: &[u8], log: &mut [u64]) -> Logged
+    ensures { λ r. ⌜ Replayed (now (s .entry)) (now (calls .entry)) (now (log .entry)) (r .number) (now (log .exit)) (r .count ∷ []) ⌝ }
+{
+    if log.len() / 11 < calls.len() {
+        return Logged {
+            number: 12,
+            count: 0,
+        };
+    }
+    let count = run(s, calls, log);
+    Logged { number: 0, count }
+}

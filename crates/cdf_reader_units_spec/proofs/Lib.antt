@@ -1,0 +1,5 @@
+pub mod Batches
+pub mod Joining
+pub mod Reading
+pub mod Computed
+pub mod Proved
