@@ -14,7 +14,7 @@ use Rattle.cdf_unit_prefix.specs.Layout.{Layout, prefixOf, idAt}
 use Rattle.cdf_unit_data.specs.Data.{ownData}
 use Rattle.cdf_unit_data.specs.declared.Own.{Own}
 use Rattle.cdf_unit_data.specs.declared.Own.the-variants.{Taken, Broken}
-use Rattle.cdf_unit_judge.specs.Judge.{dataBody, bodyOf}
+use Rattle.cdf_unit_judge.specs.Judge.{dataBody, bodyOf, bodyBy}
 use Rattle.cdf_unit_judge.specs.declared.Body.{Body}
 use Rattle.cdf_unit_judge.specs.declared.Body.the-variants.{Action, Data, Whole}
 use Rattle.cdf_unit_list.specs.Units.{End, unfinished, ended, fault, listing}
@@ -32,7 +32,7 @@ faultBy id text (Data k) = 9
 faultBy id text (Whole k) = cond (not (opens id) || eqb k (length text)) 0 9
 
 fault-is : (id action : ℕ) (text : List ℕ) → ownFault id action text ≡ faultBy id text (bodyOf id action text)
-unfolding ownFault rightData bodyOf wholeData faultBy dataBody
+unfolding ownFault rightData bodyBy wholeData faultBy dataBody
 fault-is id action text = by (actionAllowed id action) (ownData id text)
   where
     whole : (b : Bool) → _≡_ {A = ℕ} (cond (not b) 9 0) (cond b 0 9)

@@ -7,7 +7,7 @@ use lib.Dec.{eqb}
 use Rattle.cdf_unit_table.specs.Ids.{known, actionAllowed}
 use Rattle.cdf_unit_table.specs.States.{opens, nothing, admit, complete}
 use Rattle.cdf_unit_prefix.specs.Layout.{Layout, idAt}
-use Rattle.cdf_unit_data.specs.Data.{ownData}
+use Rattle.cdf_unit_data.specs.Data.{ownData, ownDataBy}
 use Rattle.cdf_unit_data.specs.declared.Own.{Own}
 use Rattle.cdf_unit_data.specs.declared.Own.the-variants.{Taken, Broken}
 use Rattle.cdf_unit_list.specs.Check.{checkOf}
@@ -62,7 +62,7 @@ wholeData id text (Taken k) = not (opens id) || eqb k (length text)
 wholeData id text (Broken k) = false
 
 unfoldable pub rightData : ℕ → List ℕ → Bool
-unfolding wholeData ownData
+unfolding wholeData ownDataBy
 rightData id text = wholeData id text (ownData id text)
 
 -- The check accepts these bytes, and their root is a group.

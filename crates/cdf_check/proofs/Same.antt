@@ -12,7 +12,7 @@ use Rattle.cdf_unit_prefix.specs.Layout.{Layout}
 use Rattle.cdf_unit_table.specs.States.{opens, nothing, complete}
 use Rattle.cdf_unit_judge.specs.Judge.{judgeOf}
 use Rattle.cdf_unit_list.specs.Units.{End, unfinished, ended, fault, Listing, listBy}
-use Rattle.cdf_unit_list.specs.Stack.{incomplete, close, Step, done, refused, found, entered, stepIn, step}
+use Rattle.cdf_unit_list.specs.Stack.{incomplete, close, Step, done, refused, found, entered, stepIn, step, stepBy}
 use Rattle.cdf_unit_list.specs.Steps.{stepsFrom, steps}
 use Rattle.cdf_unit_list.specs.Check.{answerOf, answer}
 use Rattle.cdf_unit_list.specs.declared.Unit.{Unit}
@@ -98,19 +98,19 @@ module _ (l : Layout) (s : List ℕ) (x : Listing) (finished : x .end ≡ unfini
   -- The steps at a unit's end, and at a place before it.
   step-end : (base end state : ℕ) (os : List Open) →
       step l s (frame state base end ∷ os) end ≡ stepIn l s end (cond (complete state) (close os end) (incomplete base))
-  unfolding step close
+  unfolding stepBy close
   step-end base end state os = rw (eq-eqb end end refl)
 
   step-in : (base len state at : ℕ) (os : List Open) (t : List ℕ) → Part s base len t → at < len →
       step l s (frame state base (base + len) ∷ os) (base + at)
       ≡ entered (base + at) (λ next. frame next base (base + len) ∷ os) (judgeOf l false state (drop at t))
-  unfolding step close
+  unfolding stepBy close
   step-in base len state at os t p h =
       rw (ne-eqb (base + len) (base + at) (λ e. omega arith), left-of s base len t p at)
 
   finish-tells : (base end state n : ℕ) (os : List Open) → Comes (step l s (frame state base end ∷ os) end) n →
       Tells (finish base state n) os end
-  unfolding step
+  unfolding stepBy
   finish-tells base end state n os c = go (complete state) (rw step-end at c)
     where
       go : (b : Bool) → Comes (stepIn l s end (cond b (close os end) (incomplete base))) n →
@@ -172,14 +172,14 @@ module _ (l : Layout) (s : List ℕ) (x : Listing) (finished : x .end ≡ unfini
       (omega (arith, p .long)) c
 
   whole : (r : Checked) (pos : ℕ) → Tells r [] pos → r ≡ checkedOf x
-  unfolding step close
+  unfolding stepBy close
   whole (Accepted n) pos c = end c
   whole (Refused k at) pos e = e
 
 -- The check of the unit at the front, judged as a stream's root (`true`) or one level down.
 pub same : (l : Layout) (root : Bool) (state : ℕ) (s : List ℕ) →
     front l s (judgeOf l root state s) ≡ checkedOf (listBy l s (judgeOf l root state s))
-unfolding front steps step close
+unfolding front steps stepBy close
 same l root state s =
     let j = judgeOf l root state s in
     let x = listBy l s j in

@@ -1,20 +1,32 @@
 -- The recursive check as a function, for the private contracts of `check_unit`, `check_inside` and `check_front`: no claim and no
 -- contract that is open to callers cites it, and nobody has to believe it. A unit is judged here in one piece; in the code the
 -- loop asks its prefix and admission, and `check_unit` the rest (proofs/Walked).
-use Prim.Native.Nat.{ℕ, zero, suc, _+_}
+use Prim.Native.Nat.{ℕ, zero, suc, _+_, _≤_, _<_}
 use mathlib.Core.Bool.{false, cond}
 use mathlib.Core.List.{List}
 use lib.ListN.{length, take, drop}
 use lib.Dec.{ltb}
 use Rattle.cdf_unit_prefix.specs.Layout.{Layout, prefixOf}
 use Rattle.cdf_unit_table.specs.States.{opens, nothing, complete}
-use Rattle.cdf_unit_judge.specs.Judge.{bodyOf, judgeOf}
+use Rattle.cdf_unit_table.specs.Heights.{height, heightIn}
+use Rattle.cdf_unit_judge.specs.Judge.{bodyOf, judgeOf, bodyBy}
 use Rattle.cdf_unit_judge.specs.declared.Body.{Body}
 use Rattle.cdf_unit_judge.specs.declared.Body.the-variants.{Action, Data, Whole}
 use Rattle.cdf_unit_judge.specs.declared.Judged.{Judged}
 use Rattle.cdf_unit_judge.specs.declared.Judged.the-variants.{Fault, Found}
 use Rattle.cdf_check.specs.declared.Checked.{Checked}
 use Rattle.cdf_check.specs.declared.Checked.the-variants.{Accepted, Refused}
+
+-- What is known of a unit that is to be checked, behind count units and `place` bytes: it is low enough, has a prefix, and sums stay
+-- numbers that a field can hold.
+abbrev pub UnitKnown : Layout → ℕ → List ℕ → ℕ → ℕ → ℕ → Type 0
+UnitKnown l levels s id place count =
+    (height id < levels) × (place + length s < 9223372036854775808) × (prefixOf l ≤ length s) × (count ≤ place)
+
+-- The same of what it holds, from body on.
+abbrev pub InsideKnown : ℕ → List ℕ → ℕ → ℕ → ℕ → ℕ → Type 0
+InsideKnown levels s first base body count =
+    (heightIn first < levels) × (base + length s < 9223372036854775808) × (body ≤ length s) × (count ≤ base + body)
 
 -- The check of what a nested unit holds: of its bytes, its first state, its offset, where what it holds begins, and the units
 -- up to there.
@@ -60,7 +72,7 @@ unitBy l nested s id pos n (Whole k) =
     cond (opens id) (nested s (nothing id) pos (prefixOf l + k) (n + 1)) (Accepted (n + 1))
 
 unfoldable pub checkedUnit : Layout → ℕ → List ℕ → ℕ → ℕ → ℕ → ℕ → Checked
-unfolding unitBy bodyOf
+unfolding unitBy bodyBy
 checkedUnit l levels s id action pos n = unitBy l (insideOf l levels) s id pos n (bodyOf id action (drop (prefixOf l) s))
 
 -- The unit at the front of s, which was judged so.

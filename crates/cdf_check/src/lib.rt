@@ -2,22 +2,23 @@
 ghost use mathlib.Core.Path.{_≡_};
 ghost use mathlib.Core.Bool.{Bool};
 ghost use mathlib.Core.Logic.{_↔_};
-ghost use Prim.Native.Nat.{ℕ, _+_, _≤_, _<_};
+ghost use Prim.Native.Nat.{ℕ, _+_, _≤_};
 ghost use lib.ListN.{length};
-ghost use Rattle.cdf_unit_table.specs.Heights.{height, heightIn};
-ghost use Rattle.cdf_unit_prefix.specs.Layout.{layoutOf, prefixOf};
+ghost use Rattle.cdf_unit_prefix.specs.Layout.{layoutOf};
 ghost use Rattle.cdf_unit_prefix.specs.declared.Edition.the-variants.{First};
+ghost use Rattle.cdf_unit_data.specs.Standing.{nameRow};
 ghost use Rattle.cdf_unit_judge.specs.Judge.{judgeOf};
 ghost use Rattle.cdf_unit_list.specs.Units.{listing, listingIn};
 ghost use Rattle.cdf_unit_list.specs.Check.{checkOf, checkIn};
 ghost use Rattle.cdf_grammar.specs.Trees.{Forest, units};
 ghost use Rattle.cdf_grammar.specs.Encoding.{Stream};
 ghost use Rattle.cdf_check.specs.Answers.{checkedOf, asAnswer};
-ghost use Rattle.cdf_check.specs.Walk.{checkedUnit, insideOf, front};
+ghost use Rattle.cdf_check.specs.Walk.{UnitKnown, InsideKnown, checkedUnit, insideOf, front};
+use cdf_unit_data::row::NAME_BYTES;
 use cdf_unit_judge::Body;
 use cdf_unit_judge::Judged;
 use cdf_unit_judge::judge;
-use cdf_unit_judge::judge_body;
+use cdf_unit_judge::judge_body_by;
 use cdf_unit_judge::judge_root;
 use cdf_unit_prefix::Edition;
 use cdf_unit_prefix::Header;
@@ -34,8 +35,9 @@ pub enum Checked {
 }
 
 // Checks the unit s of this id and action, which is admitted where it stands: its action and own data, then what it holds. count
-// units come before it, and `place` bytes.
+// units come before it, and `place` bytes. The row of name bytes is made once for a stream, and lent.
 fn check_unit(
+    row: &[u8; 256],
     edition: Edition,
     levels: usize,
     s: &[u8],
@@ -44,12 +46,12 @@ fn check_unit(
     place: usize,
     count: usize,
 ) -> Checked
-    requires { ⌜ (height id < levels) × (place + length (now s) < 9223372036854775808) × (prefixOf (layoutOf edition) ≤ length (now s)) × (count ≤ place) ⌝ }
+    requires { ⌜ UnitKnown (layoutOf edition) levels (now s) id place count × (now row ≡ nameRow) ⌝ }
     ensures is { λ r. ⌜ r ≡ checkedUnit (layoutOf edition) levels (now (s .entry)) id action place count ⌝ }
     ensures few { λ r. ⌜ ((n : ℕ) → r ≡ Checked.Accepted n → n ≤ place + length (now (s .entry))) ⌝ }
 {
     let p = prefix(edition);
-    match judge_body(id, action, &s[p..]) {
+    match judge_body_by(row, id, action, &s[p..]) {
         Body::Action => Checked::Refused {
             number: 8,
             offset: place,
@@ -67,7 +69,7 @@ fn check_unit(
             if first == 0 {
                 return Checked::Accepted(n);
             }
-            check_inside(edition, levels, s, first, place, p + k, n)
+            check_inside(row, edition, levels, s, first, place, p + k, n)
         }
     }
 }
@@ -75,6 +77,7 @@ fn check_unit(
 // Checks each unit that the unit s holds, from body on; in `first` it has had nothing. count units come before that, and base
 // bytes before s. A nested unit is handed on as the part of s that begins where it begins and ends where it ends.
 fn check_inside(
+    row: &[u8; 256],
     edition: Edition,
     levels: usize,
     s: &[u8],
@@ -83,7 +86,7 @@ fn check_inside(
     body: usize,
     count: usize,
 ) -> Checked
-    requires { ⌜ (heightIn first < levels) × (base + length (now s) < 9223372036854775808) × (body ≤ length (now s)) × (count ≤ base + body) ⌝ }
+    requires { ⌜ InsideKnown levels (now s) first base body count × (now row ≡ nameRow) ⌝ }
     ensures is { λ r. ⌜ r ≡ insideOf (layoutOf edition) levels (now (s .entry)) first base body count ⌝ }
     ensures few { λ r. ⌜ ((n : ℕ) → r ≡ Checked.Accepted n → n ≤ base + length (now (s .entry))) ⌝ }
 {
@@ -108,7 +111,7 @@ fn check_inside(
                     };
                 }
                 let e = at + length;
-                match check_unit(edition, levels - 1, &s[at..e], id, action, place, n) {
+                match check_unit(row, edition, levels - 1, &s[at..e], id, action, place, n) {
                     Checked::Refused { number, offset } => {
                         return Checked::Refused { number, offset };
                     }
@@ -146,7 +149,8 @@ fn check_front(edition: Edition, judged: Judged, s: &[u8]) -> Checked
         } => {
             let fresh = first_state(id);
             if fresh != 0 {
-                return check_inside(edition, 5, &s[..length], fresh, 0, own, 1);
+                let row = NAME_BYTES;
+                return check_inside(&row, edition, 5, &s[..length], fresh, 0, own, 1);
             }
             Checked::Accepted(1)
         }

@@ -11,6 +11,7 @@ use cdf_reader_advance::advance;
 use cdf_reader_close::close;
 use cdf_reader_close::no_open;
 use cdf_reader_cursor::first_as;
+use cdf_unit_data::row::NAME_BYTES;
 use cdf_unit_list::Open;
 use cdf_unit_prefix::Edition;
 use cdf_unit_states::unit_of;
@@ -118,10 +119,11 @@ fn tell(
 pub fn explain(s: &[u8]) -> Explained
     ensures is { λ r. ⌜ r ≡ explainedBy (whyOf (layoutOf First) (now (s .entry))) ⌝ }
 {
+    let row = NAME_BYTES;
     let mut a = first_as(Edition::First, s);
     while a.number == 0 {
         let c = a.cursor;
-        a = advance(c, Edition::First, s);
+        a = advance(c, &row, Edition::First, s);
     }
     if a.number == 1 {
         return Explained {

@@ -17,7 +17,7 @@ use Rattle.cdf_unit_table.proofs.Tables.{same-below}
 use Rattle.cdf_unit_prefix.specs.Layout.{Layout, prefixOf}
 use Rattle.cdf_unit_prefix.specs.Rules.{headOf}
 use Rattle.cdf_unit_prefix.specs.declared.Header.the-variants.{Prefix}
-use Rattle.cdf_unit_judge.specs.Judge.{bodyOf, foundBy, judgeHead, judgeBy, judgeOf}
+use Rattle.cdf_unit_judge.specs.Judge.{bodyOf, foundBy, judgeHead, judgeBy, judgeOf, judgeIn}
 use Rattle.cdf_unit_judge.specs.declared.Body.{Body}
 use Rattle.cdf_unit_judge.specs.declared.Body.the-variants.{Action, Data, Whole}
 use Rattle.cdf_unit_judge.specs.declared.Judged.{Judged}
@@ -85,7 +85,7 @@ module _ (l : Layout) (root : Bool) (t : List ℕ) (id action len : ℕ) (q : he
   body-other next (Whole k) e = clash cc
 
   seven : (state : ℕ) → (judgeOf l root state t ≡ Fault 7 0) ↔ (not (eqb (admits root state id) 0) ≡ false)
-  unfolding judgeOf judgeBy judgeHead
+  unfolding judgeIn judgeBy judgeHead
   seven state =
       let next = admits root state id in
       rw q (seven-if (eqb next 0) _ (body-other next (bodyOf id action (take (len - prefixOf l) (drop (prefixOf l) t)))))

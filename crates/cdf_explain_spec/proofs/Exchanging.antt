@@ -17,7 +17,8 @@ use Rattle.cdf_unit_prefix.specs.Rules.{headOf}
 use Rattle.cdf_unit_prefix.specs.declared.Header.{Header}
 use Rattle.cdf_unit_prefix.specs.declared.Header.the-variants.{Stop, Prefix}
 use Rattle.cdf_unit_data.specs.Claims.{Agree}
-use Rattle.cdf_unit_judge.specs.Judge.{bodyOf, foundBy, judgeHead, judgeBy, judgeOf}
+use Rattle.cdf_unit_data.specs.Data.{nameBytes}
+use Rattle.cdf_unit_judge.specs.Judge.{bodyOf, foundBy, judgeHead, judgeBy, judgeOf, judgeIn}
 use Rattle.cdf_unit_judge.specs.declared.Body.{Body}
 use Rattle.cdf_unit_judge.specs.declared.Body.the-variants.{Action, Data, Whole}
 use Rattle.cdf_unit_judge.specs.declared.Judged.{Judged}
@@ -38,10 +39,10 @@ use Rattle.cdf_explain_spec.proofs.Passing.{Passes, passes-all, onwards
 -- The prefix of what gets 7 to 9 passes 3 to 6.
 passed : (l : Layout) (root : Bool) (state : ℕ) (t : List ℕ) (n k : ℕ) → judgeOf l root state t ≡ Fault n k → 7 ≤ n →
     (id : ℕ) × (action : ℕ) × (len : ℕ) × (headOf l root t ≡ Prefix id action len)
-unfolding judgeOf judgeBy judgeHead
+unfolding judgeIn judgeBy judgeHead
 passed l root state t n k e h = go (headOf l root t) refl (of-head l root t) e
   where
-    go : (x : Header) → headOf l root t ≡ x → OfHeader x → judgeHead l (admits root state) t x ≡ Fault n k →
+    go : (x : Header) → headOf l root t ≡ x → OfHeader x → judgeHead nameBytes l (admits root state) t x ≡ Fault n k →
         (id : ℕ) × (action : ℕ) × (len : ℕ) × (headOf l root t ≡ Prefix id action len)
     go (Stop m) q few e = let z : m ≡ n = cc in absurd (omega arith)
     go (Prefix id action len) q few e = (id, action, len, q)
@@ -115,14 +116,14 @@ module _ (l : Layout) (root : Bool) (state : ℕ) (t : List ℕ) (n k : ℕ) (ot
   of-test true id action len after c e = cc
   of-test false id action len after c e = of-body id action len after c e
 
-  of-prefix : (h : Header) → judgeHead l (admits root state) t h ≡ Fault n k → k ≡ 0
+  of-prefix : (h : Header) → judgeHead nameBytes l (admits root state) t h ≡ Fault n k → k ≡ 0
   unfolding judgeHead
   of-prefix (Stop m) e = cc
   of-prefix (Prefix id action len) e =
       of-test (eqb (admits root state id) 0) id action len (admits root state id) (bodyOf id action (take (len - prefixOf l) (drop (prefixOf l) t))) e
 
   at-start : judgeOf l root state t ≡ Fault n k → k ≡ 0
-  unfolding judgeOf judgeBy
+  unfolding judgeIn judgeBy
   at-start e = of-prefix (headOf l root t) e
 
 -- so the point is the offset, but for 9 and 10.

@@ -16,7 +16,7 @@ use Rattle.cdf_unit_judge.proofs.Faults.{told as fault-told}
 use Rattle.cdf_unit_table.proofs.Bools.{both, clash}
 use Rattle.cdf_unit_list.specs.Units.{after, End, unfinished, ended, fault, listing, stateOf}
 use Rattle.cdf_unit_list.specs.Check.{answerOf, answer, checkOf}
-use Rattle.cdf_unit_list.specs.Stack.{Closing, incomplete, left, close, Step, refused, entered, withState, stepIn, step}
+use Rattle.cdf_unit_list.specs.Stack.{Closing, incomplete, left, close, Step, refused, entered, withState, stepIn, step, stepBy, stepInBy}
 use Rattle.cdf_unit_list.specs.declared.Unit.{Unit}
 use Rattle.cdf_unit_list.specs.declared.Open.{Open}
 use Rattle.cdf_unit_list.proofs.Proved.{proved}
@@ -138,7 +138,7 @@ module _ (l : Layout) (s : List ℕ) where
       go (Found id action own len next) q e = clash cc
 
   closing-ten : (os : List Open) (pos at : ℕ) → step l s os pos ≡ refused 10 at → Lacks (unclosed os pos)
-  unfolding step stepIn
+  unfolding stepBy stepInBy
   closing-ten os pos at e = go (close os pos) refl e
     where
       go : (c : Closing) → close os pos ≡ c → stepIn l s pos c ≡ refused 10 at → Lacks (unclosed os pos)

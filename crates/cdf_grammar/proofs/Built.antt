@@ -61,7 +61,7 @@ unit-judged {l} {id} {action} {text} {inner} p small root state next may some mo
     let front = prefixBytes l size action id in
     let s = front ++ (body ++ more) in
     let same : (front ++ body) ++ more ≡ s = append-assoc front body more in
-    let few = taken-fits id body (ownOf id text) (p .taken) in
+    let few = taken-fits _ id body (ownOf id text) (p .taken) in
     let long : length body ≡ length text + length (encode l inner) = length-append text (encode l inner) in
     let all : length s ≡ size + length more = simp (length-append, length-prefix) (omega arith) in
     let behind = drop-at front (body ++ more) (prefixOf l) (length-prefix l size action id) in

@@ -9,7 +9,7 @@ use borrow.Author.Tests.{le-leb, leb-true, eq-eqb, eqb-true}
 use lib.Dec.{leb, eqb}
 use lib.ListN.{length, take, getD, length-append}
 use lib.Seq.{take-at, length-take-le}
-use Rattle.cdf_unit_data.specs.Data.{letter, nameByte, nameRun, nameFront, spelled, nameOf}
+use Rattle.cdf_unit_data.specs.Data.{letter, nameByte, nameRun, nameFront, spelled, nameOf, frontBy, nameBy, runBy}
 use Rattle.cdf_unit_data.specs.declared.Own.{Own}
 use Rattle.cdf_unit_data.specs.declared.Own.the-variants.{Taken, Broken}
 use Rattle.cdf_unit_table.proofs.Bools.{both, either, clash}
@@ -36,7 +36,7 @@ name-byte-is b = (
 )
 
 run-all : (s : List ℕ) → (nameRun s ≡ length s) ↔ Each NameByte s
-unfolding nameRun
+unfolding runBy
 run-all [] = (λ e. record {}, λ e. refl)
 run-all (b ∷ s) = go (nameByte b) (name-byte-is b) (run-all s)
   where
@@ -53,7 +53,7 @@ record Counted (count : ℕ) (s : List ℕ) : Type 0 where
   front : nameFront s ≡ count
 
 name-counted : (count : ℕ) (s : List ℕ) → Name (count ∷ s) → Counted count s
-unfolding nameFront
+unfolding frontBy
 name-counted count s n =
     let c : count ≡ suc (length (n .others)) = cc (n .spelled) in
     let e : s ≡ n .first ∷ n .others = cc (n .spelled) in
@@ -66,7 +66,7 @@ name-counted count s n =
     })
 
 counted-name : (count : ℕ) (s : List ℕ) → Counted count s → Name (count ∷ s)
-unfolding nameFront
+unfolding frontBy
 counted-name count [] c = absurd (omega arith)
 counted-name count (b ∷ s) c = go (letter b) refl (c .front)
   where
@@ -81,7 +81,7 @@ taken true x j k e = (refl, e)
 taken false x j k e = clash cc
 
 pub name-taken : (text inner : List ℕ) → Name text → nameOf (text ++ inner) ≡ Taken (length text)
-unfolding nameOf spelled
+unfolding nameBy spelled
 name-taken [] inner n = absurd (nil≢cons (n .spelled))
 name-taken (count ∷ s) inner n =
     let c = name-counted count s n in
@@ -94,7 +94,7 @@ name-size [] rest n = absurd (nil≢cons (n .spelled))
 name-size (count ∷ s) rest n = ap suc (sym (name-counted count s n .size))
 
 pub taken-name : (s : List ℕ) (k : ℕ) → nameOf s ≡ Taken k → Name (take k s) × (length (take k s) ≡ k)
-unfolding nameOf spelled
+unfolding nameBy spelled
 taken-name [] k e = clash cc
 taken-name (count ∷ s) k e =
     let w = taken (leb 1 count && (leb count 32 && leb count (length s))) _ 0 k e in

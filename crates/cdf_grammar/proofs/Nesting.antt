@@ -13,7 +13,7 @@ use Rattle.cdf_unit_table.specs.States.{opens, complete}
 use Rattle.cdf_unit_judge.specs.Judge.{judgeOf}
 use Rattle.cdf_unit_list.specs.Units.{after, End, ended, Listing}
 use Rattle.cdf_unit_list.specs.Stack.{Closing, incomplete, left, close, Step, done, refused, found, opened, entered, withState}
-use Rattle.cdf_unit_list.specs.Stack.{stepIn, step}
+use Rattle.cdf_unit_list.specs.Stack.{stepIn, stepInBy, step, stepBy}
 use Rattle.cdf_unit_list.specs.Steps.{stepsFrom}
 use Rattle.cdf_unit_list.specs.declared.Unit.{Unit}
 use Rattle.cdf_unit_list.specs.declared.Open.{Open}
@@ -98,7 +98,7 @@ module _ (l : Layout) (S : List ℕ) where
   onward outer pos (found u os later) = found u (os ++ outer) later
 
   pub nest-step : (inner outer : List Open) (pos : ℕ) → step l S (inner ++ outer) pos ≡ onward outer pos (step l S inner pos)
-  unfolding step stepIn entered
+  unfolding stepBy stepInBy entered
   nest-step inner outer pos = rw nest-close (go (close inner pos))
     where
       unit : (o : Open) (os : List Open) (j : Judged) →
@@ -118,7 +118,7 @@ module _ (l : Layout) (S : List ℕ) where
   Inner pos end (found u os later) = Lies pos end u × (pos ≤ later) × Spans later os end
 
   step-spans : (os : List Open) (pos end : ℕ) → Spans pos os end → Inner pos end (step l S os pos)
-  unfolding step withState
+  unfolding stepBy withState
   step-spans [] pos end h = h
   step-spans (o ∷ os) pos end h = go (decLt pos (o .end)) (step-spans os pos end)
     where

@@ -11,7 +11,7 @@ use lib.Seq.{length-take-le, take-length}
 use Rattle.cdf_unit_table.specs.Ids.{Rule, blank, name, nameValue, value, numbers, kindOf, known}
 use Rattle.cdf_unit_table.specs.States.{opens}
 use Rattle.cdf_unit_table.proofs.Bools.{clash}
-use Rattle.cdf_unit_data.specs.Data.{nameOf, valueAfter, dataBy, ownData}
+use Rattle.cdf_unit_data.specs.Data.{nameBytes, nameOf, valueAfter, dataBy, ownData, ownDataBy}
 use Rattle.cdf_unit_data.specs.declared.Own.{Own}
 use Rattle.cdf_unit_data.specs.declared.Own.the-variants.{Taken, Broken}
 use Rattle.cdf_grammar.specs.Published.{TextIs, productionOf}
@@ -31,7 +31,7 @@ rule-exact value unit u text is = absurd (false≢true u)
 rule-exact (numbers n) unit u text is = sym is
 
 rule-taken : (r : Rule) (unit others : Bool) → suits unit r others ≡ true → (text inner : List ℕ) → TextIs (textOf r) text →
-    (others ≡ false → inner ≡ []) → dataBy r others (text ++ inner) ≡ Taken (ownLength (textOf r) text)
+    (others ≡ false → inner ≡ []) → dataBy nameBytes r others (text ++ inner) ≡ Taken (ownLength (textOf r) text)
 unfolding dataBy ownLength
 rule-taken blank unit others u text inner is last = refl
 rule-taken name unit others u text inner is last = name-taken text inner is ∙ ap Taken (sym (rule-exact name true refl text is))
@@ -55,7 +55,7 @@ value-after s (Taken j) k e =
     (w .1, rw z at (leb-true (length s) (j + 4096) (w .0)))
 value-after s (Broken j) k e = clash cc
 
-taken-rule : (r : Rule) (others : Bool) → suits true r others ≡ true → (s : List ℕ) (k : ℕ) → dataBy r others s ≡ Taken k →
+taken-rule : (r : Rule) (others : Bool) → suits true r others ≡ true → (s : List ℕ) (k : ℕ) → dataBy nameBytes r others s ≡ Taken k →
     (text : List ℕ) → text ≡ take (cond others k (length s)) s → TextIs (textOf r) text × (ownLength (textOf r) text ≡ k)
 unfolding dataBy ownLength
 taken-rule blank true u s k e text q = let z : 0 ≡ k = cc in (rw (← z) at q, z)
@@ -86,7 +86,7 @@ taken-rule (numbers n) false u s k e text q =
 -- Of each id.
 pub text-taken : (id : ℕ) (text inner : List ℕ) → TextIs (productionOf id .text) text → (opens id ≡ false → inner ≡ []) →
     ownData id (text ++ inner) ≡ Taken (ownOf id text)
-unfolding ownData
+unfolding ownDataBy
 text-taken id text inner is last =
     rw (agreed id .text) (rule-taken (kindOf id .rule) (known id) (opens id) (agreed id .suited) text inner (rw (agreed id .text) at is) last)
 
@@ -96,6 +96,6 @@ text-exact id text is o =
 
 pub taken-text : (id : ℕ) → known id ≡ true → (s : List ℕ) (k : ℕ) → ownData id s ≡ Taken k → (text : List ℕ) →
     text ≡ take (cond (opens id) k (length s)) s → TextIs (productionOf id .text) text × (ownOf id text ≡ k)
-unfolding ownData
+unfolding ownDataBy
 taken-text id unit s k e text q =
     rw (agreed id .text) (taken-rule (kindOf id .rule) (opens id) (rw unit at (agreed id .suited)) s k e text q)

@@ -10,7 +10,8 @@ use Rattle.cdf_reader_spec.specs.Calls.{firstOf, nextOf}
 use Rattle.cdf_unit_list.specs.declared.Unit.{Unit}
 use Rattle.cdf_reader_runs.proofs.Looping.{Going, begun, Turn, turned, over}
 use Rattle.cdf_reader_runs.proofs.Further.{first-later, next-later, ahead, less}
-use Rattle.cdf_reader_advance.specs.Advancing.{advanced}
+use Rattle.cdf_unit_data.specs.Standing.{nameRow, rowBytes}
+use Rattle.cdf_reader_advance.specs.Advancing.{advancedBy}
 use Rattle.cdf_reader.specs.View.{view, replyOf}
 use Rattle.cdf_reader.specs.declared.Answer.{Answer}
 use Rattle.cdf_reader.proofs.Proved.{proved}
@@ -64,20 +65,22 @@ module _ (s : List ℕ) where
         let lines = simp length-append at (ap length (lines-on (layoutOf First) s (w .units) (replyOf a) (w .going))) in
         omega (arith, listed-short s, w .put .next, lines)
 
-    -- The place fits, so a step from it is NEXT.
-    is-next : (r : Answer) → replyOf r ≡ advanced (layoutOf First) s (view (a .place)) → replyOf r ≡ nextOf (layoutOf First) s (view (a .place))
-    is-next r e = e ∙ proved .advances (layoutOf First) s (view (a .place)) (here .fit)
+    -- The place fits, so a step from it by 01's row is NEXT.
+    module _ (row : List ℕ) (is : row ≡ nameRow) where
+      is-next : (r : Answer) → replyOf r ≡ advancedBy (rowBytes row) (layoutOf First) s (view (a .place)) →
+          replyOf r ≡ nextOf (layoutOf First) s (view (a .place))
+      is-next r e = e ∙ proved .advances row is (layoutOf First) s (view (a .place)) (here .fit)
 
-    pub lined-next : (r : Answer) → replyOf r ≡ advanced (layoutOf First) s (view (a .place)) → {more : List ℕ} {next : ℕ} →
-        Put after at (lineBy a) more next → Lined before r more next
-    lined-next r e p = record {
-      units = a .handed .unit ∷ w .units;
-      going = rw (is-next r e) (here .next);
-      put = rw (text-next (layoutOf First) s (w .units) (replyOf a) here) (put-both (w .put) p);
-      inside = λ y. (rw (← is-next r e) at (next-later (layoutOf First) s (view (a .place)))) y .1;
-    }
+      pub lined-next : (r : Answer) → replyOf r ≡ advancedBy (rowBytes row) (layoutOf First) s (view (a .place)) → {more : List ℕ} {next : ℕ} →
+          Put after at (lineBy a) more next → Lined before r more next
+      lined-next r e p = record {
+        units = a .handed .unit ∷ w .units;
+        going = rw (is-next r e) (here .next);
+        put = rw (text-next (layoutOf First) s (w .units) (replyOf a) here) (put-both (w .put) p);
+        inside = λ y. (rw (← is-next r e) at (next-later (layoutOf First) s (view (a .place)))) y .1;
+      }
 
-    pub lined-less : (r : Answer) → replyOf r ≡ advanced (layoutOf First) s (view (a .place)) →
-        ahead (layoutOf First) s (r .number) (r .place .position) < ahead (layoutOf First) s (a .number) (a .place .position)
-    lined-less r e =
-        less (layoutOf First) s _ _ (replyOf r) z (w .inside z) (rw (← is-next r e) at (next-later (layoutOf First) s (view (a .place))))
+      pub lined-less : (r : Answer) → replyOf r ≡ advancedBy (rowBytes row) (layoutOf First) s (view (a .place)) →
+          ahead (layoutOf First) s (r .number) (r .place .position) < ahead (layoutOf First) s (a .number) (a .place .position)
+      lined-less r e =
+          less (layoutOf First) s _ _ (replyOf r) z (w .inside z) (rw (← is-next r e) at (next-later (layoutOf First) s (view (a .place))))

@@ -13,6 +13,7 @@ use cdf_listing_lines::put_line;
 use cdf_listing_lines::put_ok;
 use cdf_listing_lines::put_refused;
 use cdf_reader::first;
+use cdf_unit_data::row::NAME_BYTES;
 
 // 0 and how many bytes were written, or 12 and none.
 pub struct Written {
@@ -24,6 +25,7 @@ pub struct Written {
 fn put_units(s: &[u8], out: &mut [u8]) -> usize
     ensures { λ r. ⌜ Put (now (out .entry)) 0 (listedLines (layoutOf First) (now (s .entry))) (now (out .exit)) r ⌝ }
 {
+    let row = NAME_BYTES;
     let mut a = first(s);
     let mut at = 0;
     while a.number == 0 {
@@ -32,7 +34,7 @@ fn put_units(s: &[u8], out: &mut [u8]) -> usize
         let unit = a.handed.unit;
         let size = unit.end - unit.start;
         at = put_line(out, at as u32, depth, unit, size);
-        a = p.advance(s);
+        a = p.advance(&row, s);
     }
     at
 }

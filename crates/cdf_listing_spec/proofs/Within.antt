@@ -20,7 +20,7 @@ use Rattle.cdf_unit_judge.specs.declared.Judged.the-variants.{Fault, Found}
 use Rattle.cdf_unit_judge.proofs.Placed.{placed}
 use Rattle.cdf_unit_judge.proofs.Faults.{offset-lies}
 use Rattle.cdf_unit_list.specs.Units.{End, unfinished, ended, fault, listing}
-use Rattle.cdf_unit_list.specs.Stack.{Closing, incomplete, left, close, Step, done, refused, found, opened, entered, withState, stepIn, step}
+use Rattle.cdf_unit_list.specs.Stack.{Closing, incomplete, left, close, Step, done, refused, found, opened, entered, withState, stepIn, step, stepBy, stepInBy}
 use Rattle.cdf_unit_list.specs.declared.Unit.{Unit}
 use Rattle.cdf_unit_list.specs.declared.Open.{Open}
 use Rattle.cdf_unit_list.proofs.Entering.{unitFrom}
@@ -103,7 +103,7 @@ module _ (l : Layout) (s : List ℕ) where
       (λ e. of-cond OfClosing (complete (o .state)) (close os pos) (incomplete (o .start)) (λ f. rest) (λ f. h .0)) (λ e. h)
 
   step-sound : (os : List Open) (pos : ℕ) → Starts (length s) os → pos ≤ length s → Sound (length s) (step l s os pos)
-  unfolding step stepIn withState
+  unfolding stepBy stepInBy withState
   step-sound os pos starts h = go (close os pos) (close-starts os pos starts)
     where
       go : (c : Closing) → OfClosing c → Sound (length s) (stepIn l s pos c)

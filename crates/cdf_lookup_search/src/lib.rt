@@ -12,6 +12,7 @@ ghost use Rattle.cdf_lookup_search.specs.Walking.{walkedOf};
 use cdf_lookup_spec::Search;
 use cdf_lookup_spec::Value;
 use cdf_reader::first as first_unit;
+use cdf_unit_data::row::NAME_BYTES;
 use cdf_unit_list::Unit;
 use cdf_unit_prefix::Edition;
 use cdf_unit_prefix::prefix;
@@ -123,6 +124,7 @@ pub fn walk(s: &[u8], template: &[u8], kind: usize, key: &[u8], field: &[u8]) ->
     ensures is { λ r. ⌜ r ≡ walkedOf (layoutOf First) (now (s .entry)) (query (now (template .entry)) kind (now (key .entry)) (now (field .entry))) ⌝ }
     ensures placed { λ r. ⌜ Placed (length (now (s .entry))) (r .value) ⌝ }
 {
+    let row = NAME_BYTES;
     let mut a = first_unit(s);
     let root = a.handed.unit;
     let group = root.id == ER_GROUP;
@@ -131,7 +133,7 @@ pub fn walk(s: &[u8], template: &[u8], kind: usize, key: &[u8], field: &[u8]) ->
         let unit = a.handed.unit;
         state = advance(Edition::First, s, state, unit, template, kind, key, field);
         let p = a.place;
-        a = p.advance(s);
+        a = p.advance(&row, s);
     }
     let value = outcome(state);
     if a.number == 1 {

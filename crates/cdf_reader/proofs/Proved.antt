@@ -6,7 +6,7 @@ use native.Mathlib.Omega.{arith}
 use lib.ListN.{length}
 use Rattle.cdf_reader_spec.specs.Place.{ReaderPlace}
 use Rattle.cdf_reader_spec.specs.Slots.{noOpen, heldOf, openUnits, openRanks}
-use Rattle.cdf_reader_advance.proofs.Steady.{advances}
+use Rattle.cdf_reader_advance.proofs.Steady.{advances-by}
 use Rattle.cdf_reader.specs.View.{view}
 use Rattle.cdf_reader.specs.Words.{Word, OpenWords, AllWords, PlaceWords, StructWords}
 use Rattle.cdf_reader.specs.Claims.{Claims}
@@ -71,4 +71,4 @@ viewed p few each w =
     )
 
 pub proved : Claims
-proved = record { viewed = viewed; advances = advances }
+proved = record { viewed = viewed; advances = advances-by }

@@ -8,7 +8,8 @@ ghost use Rattle.cdf_unit_prefix.specs.declared.Edition.the-variants.{First};
 ghost use Rattle.cdf_reader_spec.specs.Calls.{firstOf, nextOf, skipOf, takeOf, previousOf, abnormalEnd, callOf};
 ghost use Rattle.cdf_reader_spec.specs.declared.Call.the-variants.{Previous};
 ghost use Rattle.cdf_reader_spec.specs.Closing.{closedAt};
-ghost use Rattle.cdf_reader_advance.specs.Advancing.{advanced};
+ghost use Rattle.cdf_unit_data.specs.Standing.{rowBytes};
+ghost use Rattle.cdf_reader_advance.specs.Advancing.{advancedBy};
 ghost use Rattle.cdf_reader.specs.View.{view, replyOf, partAt, bytesOf, noPlace};
 ghost use Rattle.cdf_reader.specs.Uses.{placeKept};
 ghost use Rattle.cdf_reader.specs.Cursors.{cursorOf, answerOf};
@@ -129,14 +130,14 @@ impl Place {
         answered(o)
     }
 
-    // NEXT without a test of the place, for loops: at a place that fits, as each is that a call returns with 0, it is NEXT (`advances`). At the
-    // empty place it answers 1, and at any other it may answer 99.
-    pub fn advance(self, s: &[u8]) -> Answer
-        ensures is { λ r. ⌜ replyOf r ≡ advanced (layoutOf First) (now (s .entry)) (view self) ⌝ }
+    // NEXT without a test of the place, for loops, by a row of name bytes: with the format's row, `NAME_BYTES`, at a place that fits, as each is that
+    // a call returns with 0, it is NEXT (`advances`). At the empty place it answers 1, and at any other it may answer 99.
+    pub fn advance(self, row: &[u8; 256], s: &[u8]) -> Answer
+        ensures is { λ r. ⌜ replyOf r ≡ advancedBy (rowBytes (now (row .entry))) (layoutOf First) (now (s .entry)) (view self) ⌝ }
         ensures kept { λ r. ⌜ ((r .number ≡ 0 → ⊥) → r .place ≡ self) ⌝ }
     {
         let c = self.cursor();
-        let o = advance(c, Edition::First, s);
+        let o = advance(c, row, Edition::First, s);
         answered(o)
     }
 

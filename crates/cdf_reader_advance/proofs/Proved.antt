@@ -9,17 +9,18 @@ use borrow.Author.Tests.{eqb-false, ltb-false, leb-false, ne-eqb, le-ltb, lt-leb
 use lib.Dec.{eqb, leb, ltb}
 use lib.ListN.{length, take, drop}
 use Rattle.cdf_unit_prefix.specs.Layout.{Layout}
-use Rattle.cdf_unit_judge.specs.Judge.{judgeOf}
+use Rattle.cdf_unit_data.specs.Data.{NameBytes}
+use Rattle.cdf_unit_judge.specs.Judge.{judgeIn}
 use Rattle.cdf_unit_judge.specs.declared.Judged.{Judged}
 use Rattle.cdf_unit_judge.specs.declared.Judged.the-variants.{Fault, Found}
-use Rattle.cdf_unit_judge.proofs.Faults.{told}
-use Rattle.cdf_unit_list.specs.Stack.{Closing, incomplete, left, close, Step, done, refused, found, entered, withState, stepIn, step}
+use Rattle.cdf_unit_judge.proofs.Faults.{told-by}
+use Rattle.cdf_unit_list.specs.Stack.{Closing, incomplete, left, close, Step, done, refused, found, entered, withState, stepInBy, stepBy}
 use Rattle.cdf_unit_list.specs.declared.Open.{Open}
 use Rattle.cdf_reader_spec.specs.Place.{ReaderPlace}
 use Rattle.cdf_reader_spec.specs.Closing.{closes, unclosed}
 use Rattle.cdf_reader_spec.specs.Ranking.{innermostAt, rankAfter, nextRank}
 use Rattle.cdf_reader_spec.specs.Calls.{refuse, stepped}
-use Rattle.cdf_reader_advance.specs.Advancing.{isInside, hasBytes, rankOn, hasRoom, advanced}
+use Rattle.cdf_reader_advance.specs.Advancing.{isInside, hasBytes, rankOn, hasRoom, advancedBy}
 use Rattle.cdf_reader_advance.specs.Claims.{nextStep, NoPart, NoRoom, Unstepped, Claims}
 use Rattle.cdf_reader_advance.proofs.Stepped.{advanced-is}
 
@@ -77,7 +78,7 @@ no-room p (refused n at) w = absurd w
 no-room p (found u os pos) (inl a) = fails-first (leb (length os) 4) _ (lt-leb (length os) 4 a)
 no-room p (found u os pos) (inr b) = fails-second (leb (length os) 4) _ (lt-leb (rankOn p) (p .position) b)
 
-module _ (l : Layout) (s : List ℕ) (p : ReaderPlace) where
+module _ (w : NameBytes) (l : Layout) (s : List ℕ) (p : ReaderPlace) where
   abbrev Left : List Open
   Left = unclosed (p .units) (p .position)
 
@@ -85,47 +86,47 @@ module _ (l : Layout) (s : List ℕ) (p : ReaderPlace) where
   bytes = hasBytes (length s) (p .position) Left
 
   abbrev room : Bool
-  room = hasRoom p (nextStep l s p)
+  room = hasRoom p (nextStep w l s p)
 
-  failed : (bytes && room) ≡ false → Unstepped l s p
+  failed : (bytes && room) ≡ false → Unstepped w l s p
   failed e = go (one-fails bytes room e)
     where
-      go : (bytes ≡ false) ⊎ (room ≡ false) → Unstepped l s p
+      go : (bytes ≡ false) ⊎ (room ≡ false) → Unstepped w l s p
       go (inl a) = inl (part-fails (length s) (p .position) Left a)
-      go (inr b) = inr (room-fails p (nextStep l s p) b)
+      go (inr b) = inr (room-fails p (nextStep w l s p) b)
 
-  fail : Unstepped l s p → (bytes && room) ≡ false
+  fail : Unstepped w l s p → (bytes && room) ≡ false
   fail (inl a) = fails-first bytes room (no-part (length s) (p .position) Left a)
-  fail (inr b) = fails-second bytes room (no-room p (nextStep l s p) b)
+  fail (inr b) = fails-second bytes room (no-room p (nextStep w l s p) b)
 
-  unstepped : Unstepped l s p → advanced l s p ≡ refuse 99 0 p
-  unstepped w = advanced-is l s p ∙ rw (fail w)
+  unstepped : Unstepped w l s p → advancedBy w l s p ≡ refuse 99 0 p
+  unstepped why = advanced-is w l s p ∙ rw (fail why)
 
-  steps : (Unstepped l s p → ⊥) → advanced l s p ≡ stepped p (nextStep l s p)
-  steps w = go (bytes && room) refl
+  steps : (Unstepped w l s p → ⊥) → advancedBy w l s p ≡ stepped p (nextStep w l s p)
+  steps may = go (bytes && room) refl
     where
-      go : (b : Bool) → (bytes && room) ≡ b → advanced l s p ≡ stepped p (nextStep l s p)
-      go true e = advanced-is l s p ∙ rw e
-      go false e = absurd (w (failed e))
+      go : (b : Bool) → (bytes && room) ≡ b → advancedBy w l s p ≡ stepped p (nextStep w l s p)
+      go true e = advanced-is w l s p ∙ rw e
+      go false e = absurd (may (failed e))
 
   -- The judge's numbers go up to 9.
   entered-told : (around : ℕ → List Open) (state : ℕ) (t : List ℕ) →
-      stepped p (entered (p .position) around (judgeOf l false state t)) .number ≤ 10
+      stepped p (entered (p .position) around (judgeIn w l false state t)) .number ≤ 10
   unfolding entered stepped
-  entered-told around state t = go (judgeOf l false state t) refl
+  entered-told around state t = go (judgeIn w l false state t) refl
     where
-      go : (j : Judged) → judgeOf l false state t ≡ j → stepped p (entered (p .position) around j) .number ≤ 10
-      go (Fault n k) e = omega (arith, told l false t state e .high)
+      go : (j : Judged) → judgeIn w l false state t ≡ j → stepped p (entered (p .position) around j) .number ≤ 10
+      go (Fault n k) e = omega (arith, told-by l false t w state e .high)
       go (Found id action own len next) e = omega arith
 
-  closed-told : (c : Closing) → stepped p (stepIn l s (p .position) c) .number ≤ 10
-  unfolding stepIn stepped
+  closed-told : (c : Closing) → stepped p (stepInBy w l s (p .position) c) .number ≤ 10
+  unfolding stepInBy stepped
   closed-told (incomplete at) = omega arith
   closed-told (left []) = omega arith
   closed-told (left (o ∷ os)) = entered-told (λ state. withState o state ∷ os) (o .state) (take (o .end - p .position) (drop (p .position) s))
 
-  step-told : stepped p (nextStep l s p) .number ≤ 10
-  unfolding step
+  step-told : stepped p (nextStep w l s p) .number ≤ 10
+  unfolding stepBy
   step-told = closed-told (close (p .units) (p .position))
 
 -- Where a unit closes, the rank that is given does not matter.

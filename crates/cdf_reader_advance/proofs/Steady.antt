@@ -11,11 +11,14 @@ use lib.ListN.{length, take, drop}
 use Rattle.cdf_unit_table.specs.States.{opens}
 use Rattle.cdf_unit_table.proofs.Heights.{falls, opens-lower}
 use Rattle.cdf_unit_prefix.specs.Layout.{Layout, prefixOf}
+use Rattle.cdf_unit_data.specs.Data.{nameBytes}
+use Rattle.cdf_unit_data.specs.Standing.{nameRow, rowBytes}
+use Rattle.cdf_unit_data.proofs.Standing.{row-is}
 use Rattle.cdf_unit_judge.specs.Judge.{judgeOf}
 use Rattle.cdf_unit_judge.specs.declared.Judged.{Judged}
 use Rattle.cdf_unit_judge.specs.declared.Judged.the-variants.{Fault, Found}
 use Rattle.cdf_unit_judge.proofs.Placed.{placed}
-use Rattle.cdf_unit_list.specs.Stack.{close, entered, withState, stepIn, step}
+use Rattle.cdf_unit_list.specs.Stack.{close, entered, withState, stepInBy, step, stepBy}
 use Rattle.cdf_unit_list.specs.declared.Open.{Open}
 use Rattle.cdf_unit_list.proofs.Entering.{unitFrom}
 use Rattle.cdf_unit_list.proofs.Stepping.{step-inside, step-closes}
@@ -28,7 +31,7 @@ use Rattle.cdf_reader_spec.proofs.Suffix.{suffix, ends-most, ends-least, starts
 use Rattle.cdf_reader_spec.proofs.Ranking.{on-stands}
 use Rattle.cdf_reader_spec.proofs.Replying.{next-is}
 use Rattle.cdf_reader_close.proofs.Unclosed.{close-unclosed, front, stops}
-use Rattle.cdf_reader_advance.specs.Advancing.{isInside, hasBytes, rankOn, hasRoom, advanced}
+use Rattle.cdf_reader_advance.specs.Advancing.{isInside, hasBytes, rankOn, hasRoom, advancedBy, advanced}
 use Rattle.cdf_reader_advance.proofs.Stepped.{advanced-is, length-opened}
 
 module _ (l : Layout) (s : List ℕ) (p : ReaderPlace) (fit : fits l (length s) p ≡ true) where
@@ -110,14 +113,19 @@ module _ (l : Layout) (s : List ℕ) (p : ReaderPlace) (fit : fits l (length s) 
 
   -- What is closed makes no other step.
   step-left : step l s (p .units) (p .position) ≡ step l s (unclosed (p .units) (p .position)) (p .position)
-  unfolding step
+  unfolding stepBy
   step-left = rw (← close-unclosed (p .position) (p .units))
 
   steady-by : (os : List Open) → unclosed (p .units) (p .position) ≡ os →
       (hasBytes (length s) (p .position) os && hasRoom p (step l s os (p .position))) ≡ true
-  unfolding hasBytes hasRoom step stepIn close
+  unfolding hasBytes hasRoom stepBy stepInBy close
   steady-by [] is = refl
   steady-by (top ∷ os) is = rw (bytes top os is, inner top os is)
 
   pub advances : advanced l s p ≡ nextOf l s p
-  advances = advanced-is l s p ∙ rw (step-left, steady-by (unclosed (p .units) (p .position)) refl) (rw (← step-left) (sym (next-is l s p fit)))
+  advances = advanced-is nameBytes l s p ∙ rw (step-left, steady-by (unclosed (p .units) (p .position)) refl) (rw (← step-left) (sym (next-is l s p fit)))
+
+-- So it is by 01's row.
+pub advances-by : (row : List ℕ) → row ≡ nameRow → (l : Layout) (s : List ℕ) (p : ReaderPlace) → fits l (length s) p ≡ true →
+    advancedBy (rowBytes row) l s p ≡ nextOf l s p
+advances-by row e l s p fit = ap (λ w. advancedBy w l s p) (row-is row e) ∙ advances l s p fit

@@ -10,11 +10,12 @@ use lib.ListN.{length, take, drop, length-take}
 use Rattle.cdf_unit_table.specs.States.{opens}
 use Rattle.cdf_unit_table.proofs.Bools.{both}
 use Rattle.cdf_unit_prefix.specs.Layout.{Layout}
-use Rattle.cdf_unit_judge.specs.Judge.{judgeOf}
+use Rattle.cdf_unit_data.specs.Data.{NameBytes}
+use Rattle.cdf_unit_judge.specs.Judge.{judgeIn}
 use Rattle.cdf_unit_judge.specs.declared.Judged.the-variants.{Fault, Found}
-use Rattle.cdf_unit_judge.proofs.Placed.{placed}
-use Rattle.cdf_unit_judge.proofs.Faults.{offset-lies}
-use Rattle.cdf_unit_list.specs.Stack.{close, Step, done, refused, found, opened, entered, withState, stepIn, step}
+use Rattle.cdf_unit_judge.proofs.Placed.{placed-by}
+use Rattle.cdf_unit_judge.proofs.Faults.{told-by}
+use Rattle.cdf_unit_list.specs.Stack.{close, Step, done, refused, found, opened, entered, withState, stepInBy, stepBy}
 use Rattle.cdf_unit_list.specs.Units.{after}
 use Rattle.cdf_unit_list.specs.declared.Unit.{Unit}
 use Rattle.cdf_unit_list.specs.declared.Open.{Open}
@@ -34,23 +35,23 @@ use Rattle.cdf_reader_cursor.specs.Entering.{entering}
 use Rattle.cdf_reader_cursor.specs.declared.Cursor.{Cursor}
 use Rattle.cdf_reader_cursor.specs.declared.Outcome.{Outcome}
 use Rattle.cdf_reader_cursor.proofs.Entered.{steps}
-use Rattle.cdf_reader_advance.specs.Advancing.{noStep, isInside, hasBytes, rankOn, hasRoom, advanced}
+use Rattle.cdf_reader_advance.specs.Advancing.{noStep, isInside, hasBytes, rankOn, hasRoom, advancedBy}
 use Rattle.cdf_reader_advance.specs.Following.{Leaves, Following}
 use Rattle.cdf_reader_advance.proofs.Standing.{few}
 
 -- By what closing leaves and what the step is. To unfold the definition would unfold the judge too.
-pub advanced-is : (l : Layout) (s : List ℕ) (p : ReaderPlace) →
-    advanced l s p
-    ≡ cond (hasBytes (length s) (p .position) (unclosed (p .units) (p .position)) && hasRoom p (step l s (p .units) (p .position)))
-    (stepped p (step l s (p .units) (p .position))) (refuse noStep 0 p)
-unfolding advanced
-advanced-is l s p = refl
+pub advanced-is : (w : NameBytes) (l : Layout) (s : List ℕ) (p : ReaderPlace) →
+    advancedBy w l s p
+    ≡ cond (hasBytes (length s) (p .position) (unclosed (p .units) (p .position)) && hasRoom p (stepBy w l s (p .units) (p .position)))
+    (stepped p (stepBy w l s (p .units) (p .position))) (refuse noStep 0 p)
+unfolding advancedBy
+advanced-is w l s p = refl
 
 -- A refusal, as the code gives it: the cursor stays.
-pub refuses : (l : Layout) (s : List ℕ) (p : Cursor) (n at : ℕ) (r : Outcome) → r ≡ refusal n at p →
-    advanced l s (cursorPlace p) ≡ refuse n at (cursorPlace p) →
-    (outcomeReply r ≡ advanced l s (cursorPlace p)) × ((r .number ≡ 0 → ⊥) → r .cursor ≡ p)
-refuses l s p n at r is due = (ap outcomeReply is ∙ sym due, λ some. ap (λ (r : Outcome). r .cursor) is)
+pub refuses : (w : NameBytes) (l : Layout) (s : List ℕ) (p : Cursor) (n at : ℕ) (r : Outcome) → r ≡ refusal n at p →
+    advancedBy w l s (cursorPlace p) ≡ refuse n at (cursorPlace p) →
+    (outcomeReply r ≡ advancedBy w l s (cursorPlace p)) × ((r .number ≡ 0 → ⊥) → r .cursor ≡ p)
+refuses w l s p n at r is due = (ap outcomeReply is ∙ sym due, λ some. ap (λ (r : Outcome). r .cursor) is)
 
 -- How many units are open behind a unit that is found.
 pub length-opened : (u : Unit) (os : List Open) → length (opened u os) ≡ cond (opens (u .id)) (suc (length os)) (length os)
@@ -61,15 +62,15 @@ length-opened u os = go (opens (u .id)) refl
     go false e = ap length (opened-leaf u os e .0)
 
 -- A step inside the innermost of them.
-step-open : (l : Layout) (s : List ℕ) (position count : ℕ) (top o1 o2 o3 : Open) → (count ≡ 0 → ⊥) → (top .end ≡ position → ⊥) →
-    stepIn l s position (close (openUnits count top o1 o2 o3) position)
+step-open : (w : NameBytes) (l : Layout) (s : List ℕ) (position count : ℕ) (top o1 o2 o3 : Open) → (count ≡ 0 → ⊥) → (top .end ≡ position → ⊥) →
+    stepInBy w l s position (close (openUnits count top o1 o2 o3) position)
     ≡ entered position (λ state. openUnits count (withState top state) o1 o2 o3)
-    (judgeOf l false (top .state) (take (top .end - position) (drop position s)))
-unfolding stepIn close openUnits
-step-open l s position zero top o1 o2 o3 some e = absurd (some refl)
-step-open l s position (suc k) top o1 o2 o3 some e = rw (ne-eqb (top .end) position e)
+    (judgeIn w l false (top .state) (take (top .end - position) (drop position s)))
+unfolding stepInBy close openUnits
+step-open w l s position zero top o1 o2 o3 some e = absurd (some refl)
+step-open w l s position (suc k) top o1 o2 o3 some e = rw (ne-eqb (top .end) position e)
 
-module _ (l : Layout) (s : List ℕ) (p : Cursor) where
+module _ (w : NameBytes) (l : Layout) (s : List ℕ) (p : Cursor) where
   abbrev v : ReaderPlace
   v = cursorPlace p
 
@@ -80,33 +81,33 @@ module _ (l : Layout) (s : List ℕ) (p : Cursor) where
     Left = openUnits count top (p .o1) (p .o2) (p .o3)
 
     abbrev Next : Step
-    Next = step l s (v .units) (p .position)
+    Next = stepBy w l s (v .units) (p .position)
 
-    by-close : Next ≡ stepIn l s (p .position) (close Left (p .position))
-    unfolding step
+    by-close : Next ≡ stepInBy w l s (p .position) (close Left (p .position))
+    unfolding stepBy
     by-close = rw (close-unclosed (p .position) (v .units), ← is)
 
     pub leaves : Leaves p count
     leaves = sym (length-open count top (p .o1) (p .o2) (p .o3)) ∙ ap length is
 
     by-left : (os : List Open) → Left ≡ os → (x : Step) → Next ≡ x →
-        advanced l s v ≡ cond (hasBytes (length s) (p .position) os && hasRoom v x) (stepped v x) (refuse noStep 0 v)
-    by-left os e x f = advanced-is l s v ∙ rw (f, ← is, e)
+        advancedBy w l s v ≡ cond (hasBytes (length s) (p .position) os && hasRoom v x) (stepped v x) (refuse noStep 0 v)
+    by-left os e x f = advanced-is w l s v ∙ rw (f, ← is, e)
 
-    pub at-end : count ≡ 0 → advanced l s v ≡ refuse 1 0 v
-    unfolding stepIn close openUnits hasBytes hasRoom stepped
+    pub at-end : count ≡ 0 → advancedBy w l s v ≡ refuse 1 0 v
+    unfolding stepInBy close openUnits hasBytes hasRoom stepped
     at-end none = by-left [] (rw none) done (by-close ∙ rw none)
 
     module _ (some : count ≡ 0 → ⊥) where
       some-open : 1 ≤ p .count
       some-open = omega (arith, few p count leaves, some)
 
-      pub at-incomplete : top .end ≡ p .position → advanced l s v ≡ refuse 10 (top .start) v
-      unfolding stepIn close hasBytes hasRoom stepped
+      pub at-incomplete : top .end ≡ p .position → advancedBy w l s v ≡ refuse 10 (top .start) v
+      unfolding stepInBy close hasBytes hasRoom stepped
       at-incomplete e =
-          let w = split count top (p .o1) (p .o2) (p .o3) some in
-          by-left _ (w .1) (refused 10 (top .start))
-          (by-close ∙ rw (w .1, eq-eqb (top .end) (p .position) e, stops (p .position) (v .units) top (w .0) (sym is ∙ w .1) e))
+          let cut = split count top (p .o1) (p .o2) (p .o3) some in
+          by-left _ (cut .1) (refused 10 (top .start))
+          (by-close ∙ rw (cut .1, eq-eqb (top .end) (p .position) e, stops (p .position) (v .units) top (cut .0) (sym is ∙ cut .1) e))
           ∙ rw (eq-eqb (top .end) (p .position) e)
 
       -- Else the unit at the position is judged in what the innermost has left, if that is a part of the bytes.
@@ -117,15 +118,15 @@ module _ (l : Layout) (s : List ℕ) (p : Cursor) where
         abbrev Inside : Bool
         Inside = isInside (length s) (p .position) top
 
-        inside : Next ≡ entered (p .position) (λ state. openUnits count (withState top state) (p .o1) (p .o2) (p .o3)) (judgeOf l false (top .state) Rest)
-        inside = by-close ∙ step-open l s (p .position) count top (p .o1) (p .o2) (p .o3) some apart
+        inside : Next ≡ entered (p .position) (λ state. openUnits count (withState top state) (p .o1) (p .o2) (p .o3)) (judgeIn w l false (top .state) Rest)
+        inside = by-close ∙ step-open w l s (p .position) count top (p .o1) (p .o2) (p .o3) some apart
 
-        by-bytes : (x : Step) → Next ≡ x → advanced l s v ≡ cond (Inside && hasRoom v x) (stepped v x) (refuse noStep 0 v)
+        by-bytes : (x : Step) → Next ≡ x → advancedBy w l s v ≡ cond (Inside && hasRoom v x) (stepped v x) (refuse noStep 0 v)
         unfolding hasBytes
         by-bytes x f =
             by-left _ (split count top (p .o1) (p .o2) (p .o3) some .1) x f ∙ rw (ne-eqb (top .end) (p .position) apart)
 
-        pub outside : Inside ≡ false → advanced l s v ≡ refuse noStep 0 v
+        pub outside : Inside ≡ false → advancedBy w l s v ≡ refuse noStep 0 v
         outside e = by-bytes Next refl ∙ rw e
 
         module _ (lies : Inside ≡ true) where
@@ -136,21 +137,21 @@ module _ (l : Layout) (s : List ℕ) (p : Cursor) where
               (ltb-true (top .start) (p .position) (a .0), ltb-true (p .position) (top .end) (b .0), leb-true (top .end) (length s) (b .1))
 
           -- Where it lies, it ends in the bytes.
-          pub unit-within : {id action own len state : ℕ} → judgeOf l false (top .state) Rest ≡ Found id action own len state →
+          pub unit-within : {id action own len state : ℕ} → judgeIn w l false (top .state) Rest ≡ Found id action own len state →
               (own ≤ len) × (p .position + len ≤ length s)
           unit-within e =
-              let z = placed l false (top .state) Rest e in
+              let z = placed-by w l false (top .state) Rest e in
               omega (arith, z .inside, z .high, within, length-take (top .end - p .position) (drop (p .position) s))
 
-          pub fault-within : {n k : ℕ} → judgeOf l false (top .state) Rest ≡ Fault n k → p .position + k ≤ length s
+          pub fault-within : {n k : ℕ} → judgeIn w l false (top .state) Rest ≡ Fault n k → p .position + k ≤ length s
           fault-within e =
-              omega (arith, offset-lies l false (top .state) Rest e, within, length-take (top .end - p .position) (drop (p .position) s))
+              omega (arith, told-by l false Rest w (top .state) e .lies, within, length-take (top .end - p .position) (drop (p .position) s))
 
-          pub inside-fault : {n k : ℕ} → judgeOf l false (top .state) Rest ≡ Fault n k → advanced l s v ≡ refuse n (p .position + k) v
+          pub inside-fault : {n k : ℕ} → judgeIn w l false (top .state) Rest ≡ Fault n k → advancedBy w l s v ≡ refuse n (p .position + k) v
           unfolding hasRoom stepped
           inside-fault {n} {k} j = by-bytes (refused n (p .position + k)) (inside ∙ rw j (faults _ _ _ _)) ∙ rw lies
 
-          module _ {id action own len state : ℕ} (j : judgeOf l false (top .state) Rest ≡ Found id action own len state) where
+          module _ {id action own len state : ℕ} (j : judgeIn w l false (top .state) Rest ≡ Found id action own len state) where
             abbrev Unit' : Unit
             Unit' = unitFrom (p .position) id action own len
 
@@ -170,17 +171,17 @@ module _ (l : Layout) (s : List ℕ) (p : Cursor) where
               room-is =
                   rw (← follow, length-opened Unit' Then, length-open count (withState top state) (p .o1) (p .o2) (p .o3))
 
-              by-room : advanced l s v ≡ cond Room (stepped v Found') (refuse noStep 0 v)
+              by-room : advancedBy w l s v ≡ cond Room (stepped v Found') (refuse noStep 0 v)
               by-room = by-bytes Found' (inside ∙ rw j (enters _ _ _ _ _ _ _)) ∙ rw (lies, room-is)
 
-              pub no-room : Room ≡ false → advanced l s v ≡ refuse noStep 0 v
+              pub no-room : Room ≡ false → advancedBy w l s v ≡ refuse noStep 0 v
               no-room e = by-room ∙ rw e
 
               module _ (room : Room ≡ true) where
                 tests : (cond (opens id) (suc count) count ≤ 4) × (suc before ≤ p .position)
                 tests =
-                    let w = both (leb (cond (opens id) (suc count) count) 4) (ltb before (p .position)) room in
-                    (leb-true (cond (opens id) (suc count) count) 4 (w .0), ltb-true before (p .position) (w .1))
+                    let each = both (leb (cond (opens id) (suc count) count) 4) (ltb before (p .position)) room in
+                    (leb-true (cond (opens id) (suc count) count) 4 (each .0), ltb-true before (p .position) (each .1))
 
                 pub following : length s < 18446744073709551616 → Following p count before
                 following word =
@@ -200,7 +201,7 @@ module _ (l : Layout) (s : List ℕ) (p : Cursor) where
                 -- It is entered.
                 pub enters-found : (depth rank : ℕ) → depth ≡ suc count → rank ≡ nextRank v →
                     let h : Ranked = record { unit = Unit'; depth = depth; rank = rank } in
-                    outcomeReply (entering p count top h state) ≡ advanced l s v
+                    outcomeReply (entering p count top h state) ≡ advancedBy w l s v
                 enters-found depth rank deep next =
                     steps v p count top _ state (omega arith) (slots .0)
                     (record {

@@ -6,7 +6,8 @@ use mathlib.Core.List.{List, [], _∷_}
 use lib.Dec.{leb, ltb, eqb}
 use lib.ListN.{length}
 use Rattle.cdf_unit_prefix.specs.Layout.{Layout}
-use Rattle.cdf_unit_list.specs.Stack.{Step, done, refused, found, step}
+use Rattle.cdf_unit_data.specs.Data.{NameBytes, nameBytes}
+use Rattle.cdf_unit_list.specs.Stack.{Step, done, refused, found, stepBy}
 use Rattle.cdf_unit_list.specs.declared.Open.{Open}
 use Rattle.cdf_reader_spec.specs.Place.{ReaderPlace}
 use Rattle.cdf_reader_spec.specs.Closing.{unclosed}
@@ -38,8 +39,13 @@ hasRoom p done = true
 hasRoom p (refused n at) = true
 hasRoom p (found u os pos) = leb (length os) 4 && leb (rankOn p) (p .position)
 
-unfoldable pub advanced : Layout → List ℕ → ReaderPlace → Reply
-unfolding step unclosed hasBytes hasRoom stepped
-advanced l s p =
-    let next = step l s (p .units) (p .position) in
+-- By the bytes that may stand in a name.
+unfoldable pub advancedBy : NameBytes → Layout → List ℕ → ReaderPlace → Reply
+unfolding stepBy unclosed hasBytes hasRoom stepped
+advancedBy w l s p =
+    let next = stepBy w l s (p .units) (p .position) in
     cond (hasBytes (length s) (p .position) (unclosed (p .units) (p .position)) && hasRoom p next) (stepped p next) (refuse noStep 0 p)
+
+-- With 01's.
+abbrev pub advanced : Layout → List ℕ → ReaderPlace → Reply
+advanced = advancedBy nameBytes

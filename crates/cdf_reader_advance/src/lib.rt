@@ -5,9 +5,10 @@ ghost use Prim.Native.Nat.{suc};
 ghost use lib.Dec.{leb, ltb};
 ghost use Rattle.cdf_unit_table.specs.States.{opens};
 ghost use Rattle.cdf_unit_prefix.specs.Layout.{layoutOf};
+ghost use Rattle.cdf_unit_data.specs.Standing.{rowBytes};
 ghost use Rattle.cdf_reader_spec.specs.Ranking.{nextRank};
 ghost use Rattle.cdf_reader_cursor.specs.Outcomes.{cursorPlace, outcomeReply};
-ghost use Rattle.cdf_reader_advance.specs.Advancing.{isInside, rankOn, advanced};
+ghost use Rattle.cdf_reader_advance.specs.Advancing.{isInside, rankOn, advancedBy};
 ghost use Rattle.cdf_reader_advance.specs.Following.{Leaves, Following};
 use cdf_reader_close::close;
 use cdf_reader_close::rank_at;
@@ -16,7 +17,7 @@ use cdf_reader_cursor::Outcome;
 use cdf_reader_cursor::enter;
 use cdf_reader_cursor::refused;
 use cdf_unit_judge::Judged;
-use cdf_unit_judge::judge;
+use cdf_unit_judge::judge_by;
 use cdf_unit_list::Open;
 use cdf_unit_list::Ranked;
 use cdf_unit_list::Unit;
@@ -77,9 +78,9 @@ pub fn next_rank(c: Cursor, left: usize, before: usize) -> usize
     after
 }
 
-// Closes units, judges the one at the position and enters it.
-pub fn advance(c: Cursor, edition: Edition, s: &[u8]) -> Outcome
-    ensures is { λ r. ⌜ outcomeReply r ≡ advanced (layoutOf edition) (now (s .entry)) (cursorPlace c) ⌝ }
+// Closes units, judges the one at the position by a row of name bytes, and enters it.
+pub fn advance(c: Cursor, row: &[u8; 256], edition: Edition, s: &[u8]) -> Outcome
+    ensures is { λ r. ⌜ outcomeReply r ≡ advancedBy (rowBytes (now (row .entry))) (layoutOf edition) (now (s .entry)) (cursorPlace c) ⌝ }
     ensures kept { λ r. ⌜ ((r .number ≡ 0 → ⊥) → r .cursor ≡ c) ⌝ }
 {
     let top = c.top;
@@ -100,7 +101,7 @@ pub fn advance(c: Cursor, edition: Edition, s: &[u8]) -> Outcome
     if !is_inside(inner, at, n) {
         return refused(NO_STEP, 0, c);
     }
-    match judge(edition, inner.state, &s[at..stop]) {
+    match judge_by(row, edition, inner.state, &s[at..stop]) {
         Judged::Fault { number, offset } => {
             let broken = at + offset;
             refused(number, broken, c)

@@ -12,7 +12,7 @@ use Rattle.cdf_unit_table.specs.States.{unitOf, nothing, skipped}
 use Rattle.cdf_unit_table.proofs.Bools.{both, of-cond}
 use Rattle.cdf_unit_table.proofs.Skipping.{skipped-unit, skipped-complete}
 use Rattle.cdf_unit_prefix.specs.Layout.{Layout}
-use Rattle.cdf_unit_list.specs.Stack.{close, Step, done, refused, found, withState, stepIn, step}
+use Rattle.cdf_unit_list.specs.Stack.{close, Step, done, refused, found, withState, step, stepBy, stepInBy}
 use Rattle.cdf_unit_list.specs.declared.Unit.{Unit}
 use Rattle.cdf_unit_list.specs.declared.Open.{Open}
 use Rattle.cdf_unit_list.proofs.Stepping.{step-closes}
@@ -149,7 +149,7 @@ module _ (l : Layout) (s : List ℕ) where
 
   -- With no unit open a step is at the end.
   none-open : (pos : ℕ) → step l s [] pos ≡ done
-  unfolding step stepIn close
+  unfolding stepBy stepInBy close
   none-open pos = refl
 
   -- Past the one open unit is the end.

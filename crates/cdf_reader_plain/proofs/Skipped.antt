@@ -12,7 +12,7 @@ use Rattle.cdf_unit_table.specs.States.{opens, skipped}
 use Rattle.cdf_unit_table.proofs.Skipping.{skipped-complete}
 use Rattle.cdf_unit_prefix.specs.Layout.{Layout}
 use Rattle.cdf_unit_list.specs.Units.{parentsThat, openAt, firstStarts, inside, stateOf, Next}
-use Rattle.cdf_unit_list.specs.Stack.{Closing, close, withState, stepIn, step}
+use Rattle.cdf_unit_list.specs.Stack.{Closing, close, withState, stepIn, step, stepBy, stepInBy}
 use Rattle.cdf_unit_list.specs.declared.Unit.{Unit}
 use Rattle.cdf_unit_list.specs.declared.Ranked.{Ranked}
 use Rattle.cdf_unit_list.specs.declared.Open.{Open}
@@ -96,7 +96,7 @@ module _ (u : Unit) (us : List Unit) (pos : ℕ) (past : u .start < pos) where
     pub past-goes : (vs : List Unit) → Within pos (u .end) vs → (ks : List ℕ) (k : ℕ) → Counted (u ∷ us) outer ks (suc k) →
         Follows (listed vs) (step l s outer (u .end))
         × CountsOn (listed vs) (unclosedRanks outer ks (u .end)) (rankAfter outer ks (u .end) (suc k)) (step l s outer (u .end))
-    unfolding step stepIn
+    unfolding stepBy stepInBy
     past-goes vs w ks k c =
         let stack = rw reach at (f .stack) in
         let nested = rw reach at (f .nested) in

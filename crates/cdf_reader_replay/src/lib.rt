@@ -6,6 +6,7 @@ ghost use Prim.Native.Nat.{_*_, _≤_};
 ghost use lib.ListN.{length, drop};
 ghost use Rattle.cdf_unit_prefix.specs.Layout.{layoutOf};
 ghost use Rattle.cdf_unit_prefix.specs.declared.Edition.the-variants.{First};
+ghost use Rattle.cdf_unit_data.specs.Standing.{nameRow};
 ghost use Rattle.cdf_reader_spec.specs.Ranking.{depthAt};
 ghost use Rattle.cdf_reader_spec.specs.Calls.{callOf};
 ghost use Rattle.cdf_reader_cursor.specs.Outcomes.{cursorPlace, outcomeReply};
@@ -21,6 +22,7 @@ use cdf_reader_cursor::pass;
 use cdf_reader_cursor::refused;
 use cdf_reader_spec::Call;
 use cdf_reader_use::has_use;
+use cdf_unit_data::row::NAME_BYTES;
 use cdf_unit_list::Ranked;
 use cdf_unit_prefix::Edition;
 
@@ -74,9 +76,9 @@ fn last_depth(c: Cursor) -> usize
     deeper
 }
 
-// Any call at a place that the loop holds: 11, then what it does.
-fn turn(c: Cursor, call: Call, s: &[u8]) -> Outcome
-    requires { ⌜ Held (now s) c ⌝ }
+// Any call at a place that the loop holds, with the row of name bytes: 11, then what it does.
+fn turn(c: Cursor, row: &[u8; 256], call: Call, s: &[u8]) -> Outcome
+    requires { ⌜ Held (now s) c × (now row ≡ nameRow) ⌝ }
     ensures is { λ r. ⌜ outcomeReply r ≡ callOf (layoutOf First) (now (s .entry)) (cursorPlace c) call ⌝ }
     ensures held { λ r. ⌜ Held (now (s .entry)) (r .cursor) ⌝ }
 {
@@ -85,7 +87,7 @@ fn turn(c: Cursor, call: Call, s: &[u8]) -> Outcome
     }
     match call {
         Call::Start => first_as(Edition::First, s),
-        Call::Next => advance(c, Edition::First, s),
+        Call::Next => advance(c, row, Edition::First, s),
         Call::Skip => pass(c),
         Call::GetStream => pass(c),
         Call::Previous => {
@@ -149,6 +151,7 @@ fn run(s: &[u8], calls: &[u8], log: &mut [u64]) -> usize
     ensures count { λ r. ⌜ r ≡ length (ranOf (now (s .entry)) (now (calls .entry))) ⌝ }
     ensures written { λ r. ⌜ now (log .exit) ≡ logAfter (ranOf (now (s .entry)) (now (calls .entry))) (now (log .entry)) ⌝ }
 {
+    let row = NAME_BYTES;
     let mut c = no_cursor();
     let mut k = 0;
     let mut at = 0;
@@ -158,7 +161,7 @@ fn run(s: &[u8], calls: &[u8], log: &mut [u64]) -> usize
             return k;
         }
         let call = call_by(code);
-        let o = turn(c, call, s);
+        let o = turn(c, &row, call, s);
         let part = part_of(code, o.number, c.last.start, c.last.end);
         let end = log.len();
         write_entry(&mut log[at..end], o, part);

@@ -14,7 +14,7 @@ use Rattle.cdf_unit_judge.specs.declared.Judged.{Judged}
 use Rattle.cdf_unit_judge.specs.declared.Judged.the-variants.{Fault, Found}
 use Rattle.cdf_unit_judge.proofs.Faults.{told}
 use Rattle.cdf_unit_judge.proofs.Placed.{Placed, placed}
-use Rattle.cdf_unit_list.specs.Stack.{Closing, incomplete, left, close, Step, done, refused, found, entered, withState, stepIn, step}
+use Rattle.cdf_unit_list.specs.Stack.{Closing, incomplete, left, close, Step, done, refused, found, entered, withState, stepIn, step, stepBy, stepInBy}
 use Rattle.cdf_unit_list.specs.declared.Open.{Open}
 use Rattle.cdf_unit_list.proofs.Entering.{unitFrom as unitAt}
 use Rattle.cdf_unit_list.proofs.Stepping.{fresh}
@@ -97,7 +97,7 @@ module _ (l : Layout) (s : List ℕ) where
 
   -- What closing leaves is around the position, so that a unit there may be entered.
   pub next-keeps : (p : ReaderPlace) → fits l (length s) p ≡ true → Keeps p (step l s (p .units) (p .position))
-  unfolding step stepIn withState
+  unfolding stepBy stepInBy withState
   next-keeps p e = go (close (p .units) (p .position)) refl (close-held l (length s) (p .position) (p .units) (fitting-held l (length s) p e))
     where
       pos : ℕ

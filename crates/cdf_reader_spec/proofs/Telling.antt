@@ -16,7 +16,7 @@ use Rattle.cdf_unit_judge.specs.declared.Judged.{Judged}
 use Rattle.cdf_unit_judge.specs.declared.Judged.the-variants.{Fault, Found}
 use Rattle.cdf_unit_judge.proofs.Faults.{told}
 use Rattle.cdf_unit_list.specs.Units.{after}
-use Rattle.cdf_unit_list.specs.Stack.{Closing, incomplete, left, close, opened, entered, withState, stepIn, step}
+use Rattle.cdf_unit_list.specs.Stack.{Closing, incomplete, left, close, opened, entered, withState, stepIn, step, stepBy, stepInBy}
 use Rattle.cdf_unit_list.specs.declared.Unit.{Unit}
 use Rattle.cdf_unit_list.specs.declared.Open.{Open}
 use Rattle.cdf_unit_list.proofs.Entering.{unitFrom as unitAt}
@@ -67,7 +67,7 @@ module _ (l : Layout) (s : List ℕ) (P : Reply → Type 0) where
       Entered p (p .position) (λ next. withState o next ∷ os)
 
   step-of : (p : ReaderPlace) → Left p → Of (stepped p (step l s (p .units) (p .position)))
-  unfolding step stepIn stepped
+  unfolding stepBy stepInBy stepped
   step-of p some = go (close (p .units) (p .position)) refl
     where
       go : (c : Closing) → close (p .units) (p .position) ≡ c → Of (stepped p (stepIn l s (p .position) c))

@@ -7,8 +7,8 @@ use lib.ListN.{length}
 use Rattle.cdf_unit_table.specs.Ids.{erGroup, fileGroup}
 use Rattle.cdf_unit_table.specs.States.{opens, skipped}
 use Rattle.cdf_unit_prefix.specs.Layout.{Layout}
-use Rattle.cdf_unit_judge.specs.Judge.{judgeOf}
-use Rattle.cdf_unit_list.specs.Stack.{Step, done, refused, found, entered, withState, step}
+use Rattle.cdf_unit_judge.specs.Judge.{judgeOf, judgeIn}
+use Rattle.cdf_unit_list.specs.Stack.{Step, done, refused, found, entered, withState, step, stepBy}
 use Rattle.cdf_unit_list.specs.declared.Unit.{Unit}
 use Rattle.cdf_unit_list.specs.declared.Open.{Open}
 use Rattle.cdf_unit_list.specs.declared.Ranked.{Ranked}
@@ -71,13 +71,13 @@ stepped p (found u os pos) = give (placeAt p u os pos)
 
 -- FIRST: the root's rules, 3 to 9 in order.
 unfoldable pub firstOf : Layout → List ℕ → Reply
-unfolding stepped entered judgeOf
+unfolding stepped entered judgeIn
 firstOf l s = stepped emptyPlace (entered 0 (λ state. []) (judgeOf l true 0 s))
 
 -- NEXT: 11 for the empty place, 2 for one that does not fit; then the open units that end at the position close, innermost
 -- first, 10 at the first incomplete one, 1 if none is left open, and 3 to 9 for the unit at the position (`step`).
 unfoldable pub nextOf : Layout → List ℕ → ReaderPlace → Reply
-unfolding isEmpty fits stepped step
+unfolding isEmpty fits stepped stepBy
 nextOf l s p =
     cond (isEmpty p) (refuse 11 0 p)
     (cond (not (fits l (length s) p)) (refuse 2 0 p) (stepped p (step l s (p .units) (p .position))))

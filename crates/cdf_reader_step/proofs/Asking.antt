@@ -8,6 +8,7 @@ use borrow.Author.Tests.{eq-eqb, ne-eqb}
 use lib.Dec.{eqb}
 use lib.ListN.{length}
 use Rattle.cdf_unit_prefix.specs.Layout.{Layout}
+use Rattle.cdf_unit_data.specs.Standing.{nameRow, rowBytes}
 use Rattle.cdf_unit_list.specs.Stack.{step}
 use Rattle.cdf_reader_spec.specs.Place.{ReaderPlace, isEmpty, fits}
 use Rattle.cdf_reader_spec.specs.Ranking.{depthAt}
@@ -23,8 +24,8 @@ use Rattle.cdf_reader_cursor.specs.Outcomes.{cursorPlace, outcomeReply, noCurso
 use Rattle.cdf_reader_cursor.specs.declared.Cursor.{Cursor}
 use Rattle.cdf_reader_cursor.specs.declared.Outcome.{Outcome}
 use Rattle.cdf_reader_cursor.proofs.Again.{given-is}
-use Rattle.cdf_reader_advance.specs.Advancing.{advanced}
-use Rattle.cdf_reader_advance.proofs.Steady.{advances}
+use Rattle.cdf_reader_advance.specs.Advancing.{advancedBy}
+use Rattle.cdf_reader_advance.proofs.Steady.{advances-by}
 use Rattle.cdf_reader_step.specs.Kept.{cursorKept}
 
 -- A start always has a use.
@@ -142,10 +143,10 @@ module _ (p : Cursor) where
         starts e r is kept = (is ∙ sym (done ∙ rw e), (rw e kept, other (rw e)))
 
         -- NEXT is a step at any place, which at one that fits is NEXT.
-        pub steps : c ≡ Next → (r : Outcome) → outcomeReply r ≡ advanced l s v → ((r .number ≡ 0 → ⊥) → r .cursor ≡ p) → Answers c r
+        pub steps : c ≡ Next → (r : Outcome) → outcomeReply r ≡ advancedBy (rowBytes nameRow) l s v → ((r .number ≡ 0 → ⊥) → r .cursor ≡ p) → Answers c r
         steps e r is kept =
             let fit = fit-needed f (rw e) in
-            (is ∙ advances l s v fit ∙ next-is l s v fit ∙ sym (done ∙ rw e), (rw e kept, other (rw e)))
+            (is ∙ advances-by nameRow refl l s v fit ∙ next-is l s v fit ∙ sym (done ∙ rw e), (rw e kept, other (rw e)))
 
         passes : does c ≡ moveTo (passed v) → isPrevious c ≡ false → (r : Outcome) → outcomeReply r ≡ moveTo (passed v) → Answers c r
         passes e no-previous r is =

@@ -19,6 +19,7 @@ use cdf_reader_fit::fits;
 use cdf_reader_spec::Call;
 use cdf_reader_use::has_use;
 use cdf_reader_use::is_start;
+use cdf_unit_data::row::NAME_BYTES;
 use cdf_unit_list::Ranked;
 use cdf_unit_prefix::Edition;
 
@@ -81,7 +82,8 @@ pub fn next_at(c: Cursor, edition: Edition, s: &[u8]) -> Outcome
     if !is_fit(c, edition, n) {
         return refused(2, 0, c);
     }
-    advance(c, edition, s)
+    let row = NAME_BYTES;
+    advance(c, &row, edition, s)
 }
 
 // Any call. In this code a place is tested and a unit is read in one line, into which the compiler can put all of both.
@@ -99,7 +101,10 @@ pub fn call_at(c: Cursor, edition: Edition, call: Call, s: &[u8]) -> Outcome
     }
     match call {
         Call::Start => first_as(edition, s),
-        Call::Next => advance(c, edition, s),
+        Call::Next => {
+            let row = NAME_BYTES;
+            advance(c, &row, edition, s)
+        }
         Call::Skip => pass(c),
         Call::GetStream => pass(c),
         Call::Previous => {

@@ -11,12 +11,13 @@ use lib.ListN.{length, drop, length-append, length-drop}
 use lib.Seq.{take-at, drop-at, drop-drop, sets, sets-eq}
 use Rattle.cdf_unit_prefix.specs.Layout.{layoutOf}
 use Rattle.cdf_unit_prefix.specs.declared.Edition.the-variants.{First}
+use Rattle.cdf_unit_data.specs.Standing.{nameRow, rowBytes}
 use Rattle.cdf_unit_list.specs.declared.Ranked.{Ranked}
 use Rattle.cdf_reader_spec.specs.Place.{isEmpty, fits}
 use Rattle.cdf_reader_spec.specs.Calls.{Reply, nextOf}
 use Rattle.cdf_reader_spec.proofs.Counted.{length-open}
 use Rattle.cdf_reader_runs.proofs.Replies.{next-fits}
-use Rattle.cdf_reader_advance.specs.Advancing.{advanced}
+use Rattle.cdf_reader_advance.specs.Advancing.{advancedBy}
 use Rattle.cdf_reader.specs.View.{view, replyOf}
 use Rattle.cdf_reader.specs.declared.Place.{Place}
 use Rattle.cdf_reader.specs.declared.Answer.{Answer}
@@ -141,9 +142,10 @@ module _ (s : List ℕ) (p : Place) (list₀ : List ℕ) where
         let none : r .left ≡ 0 = omega (arith, r .room) in
         ended 0 0 (ap (batchOf (layoutOf First) s (view place)) none ∙ batch .no-room (layoutOf First) s (view place) (r .fit))
 
-    module _ (less : count < roomOf list₀) (a : Answer) (is : replyOf a ≡ advanced (layoutOf First) s (view place)) where
+    module _ (less : count < roomOf list₀) (row : List ℕ) (by : row ≡ nameRow) (a : Answer)
+        (is : replyOf a ≡ advancedBy (rowBytes row) (layoutOf First) s (view place)) where
       next : replyOf a ≡ nextOf (layoutOf First) s (view place)
-      next = is ∙ reader .advances (layoutOf First) s (view place) (r .fit)
+      next = is ∙ reader .advances row by (layoutOf First) s (view place) (r .fit)
 
       -- As many turns are left as one and those after it.
       rest : (k : ℕ) × (r .left ≡ suc k)

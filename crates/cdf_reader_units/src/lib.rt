@@ -12,6 +12,7 @@ ghost use Rattle.cdf_reader_units.specs.Filling.{unitNumbers, Fills};
 ghost use Rattle.cdf_reader_units.specs.Stopping.{stoppedAt};
 use cdf_reader::Place;
 use cdf_reader_fit::fits;
+use cdf_unit_data::row::NAME_BYTES;
 use cdf_unit_list::Ranked;
 use cdf_unit_prefix::Edition;
 
@@ -88,12 +89,13 @@ fn run(p: Place, s: &[u8], list: &mut [u64]) -> Filled
     requires { ⌜ fits (layoutOf First) (length (now s)) (view p) ≡ true ⌝ }
     ensures { λ r. ⌜ Fills (now (s .entry)) p (now (list .entry)) r (now (list .exit)) ⌝ }
 {
+    let row = NAME_BYTES;
     let room = list.len() / 7;
     let mut place = p;
     let mut count = 0;
     let mut at = 0;
     while count < room {
-        let a = place.advance(s);
+        let a = place.advance(&row, s);
         if a.number != 0 {
             return stopped(a.number, a.offset, count, place);
         }

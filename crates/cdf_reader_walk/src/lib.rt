@@ -5,6 +5,7 @@ ghost use Rattle.cdf_unit_prefix.specs.Layout.{layoutOf};
 ghost use Rattle.cdf_unit_prefix.specs.declared.Edition.the-variants.{First};
 ghost use Rattle.cdf_reader_walk.specs.Fold.{mixOf, mixEnd, walkOf};
 use cdf_reader::first;
+use cdf_unit_data::row::NAME_BYTES;
 use cdf_unit_list::Ranked;
 
 // One more unit.
@@ -29,13 +30,14 @@ fn mix_end(h: u64, number: usize, offset: usize) -> u64
 pub extern "C" fn cdf_walk(s: &[u8]) -> u64
     ensures { λ r. ⌜ r ≡ walkOf (layoutOf First) (now (s .entry)) ⌝ }
 {
+    let row = NAME_BYTES;
     let mut a = first(s);
     let mut h: u64 = 0;
     while a.number == 0 {
         let handed = a.handed;
         h = mix(h, handed);
         let p = a.place;
-        a = p.advance(s);
+        a = p.advance(&row, s);
     }
     mix_end(h, a.number, a.offset)
 }

@@ -1,15 +1,20 @@
 -- The unit at the front, by what judge and check tell of it.
 use Prim.Native.Nat.{ℕ, _≤_}
-use mathlib.Core.Path.{_≡_, sym, ap, _∙_}
-use mathlib.Core.Bool.{false}
+use mathlib.Core.Path.{_≡_, refl, sym, ap, _∙_}
+use mathlib.Core.Bool.{false, true}
 use mathlib.Core.List.{List}
 use native.Mathlib.Omega.{arith}
-use borrow.Author.Tests.{ne-eqb}
+use borrow.Author.Tests.{ne-eqb, not-false}
+use lib.Dec.{eqb}
 use lib.ListN.{length}
 use Rattle.cdf_unit_table.specs.Ids.{erGroup}
-use Rattle.cdf_unit_table.specs.States.{nothing}
+use Rattle.cdf_unit_table.specs.States.{admit, admits, nothing}
+use Rattle.cdf_unit_table.proofs.Rows.{admits-nested}
 use Rattle.cdf_unit_prefix.specs.Layout.{Layout}
-use Rattle.cdf_unit_judge.specs.Judge.{judgeOf}
+use Rattle.cdf_unit_prefix.specs.Rules.{headOf}
+use Rattle.cdf_unit_prefix.specs.declared.Header.{Header}
+use Rattle.cdf_unit_prefix.specs.declared.Header.the-variants.{Stop, Prefix}
+use Rattle.cdf_unit_judge.specs.Judge.{judgeHead, judgeBy, judgeIn, judgeOf}
 use Rattle.cdf_unit_judge.specs.declared.Judged.the-variants.{Fault, Found}
 use Rattle.cdf_unit_judge.proofs.Placed.{placed}
 use Rattle.cdf_unit_judge.proofs.Faults.{told}
@@ -19,6 +24,7 @@ use Rattle.cdf_check.specs.Answers.{checkedOf, asAnswer}
 use Rattle.cdf_check.specs.declared.Checked.the-variants.{Accepted, Refused}
 use Rattle.cdf_check.proofs.Exact.{refused-numbered}
 use Rattle.cdf_rescue_spec.specs.Salvage.{wholeAt}
+use Rattle.cdf_rescue.specs.Parts.{isHeaded}
 
 module _ (l : Layout) (s : List ℕ) where
   abbrev state : ℕ
@@ -34,6 +40,17 @@ module _ (l : Layout) (s : List ℕ) where
 
   pub none-judged : {n k : ℕ} → judgeOf l false state s ≡ Fault n k → 0 ≡ wholeAt l s
   none-judged {n} e = none-by n (faulty e) (λ z. let t = told l false s state e in omega (arith, t .low))
+
+  -- Where a prefix breaks a rule, or its unit is not admitted, no unit stands.
+  pub none-headed : isHeaded (headOf l false s) ≡ false → wholeAt l s ≡ 0
+  unfolding judgeIn judgeBy judgeHead
+  none-headed e = by (headOf l false s) refl e
+    where
+      by : (h : Header) → headOf l false s ≡ h → isHeaded h ≡ false → wholeAt l s ≡ 0
+      by (Stop n) is none = sym (none-judged {n = n} {k = 0} (rw is))
+      by (Prefix id action len) is none =
+          let out : eqb (admits false state id) 0 ≡ true = rw (admits-nested state id) (not-false (eqb (admit state id) 0) none) in
+          sym (none-judged {n = 7} {k = 0} (rw (is, out)))
 
   pub none-checked : (n at : ℕ) → asAnswer (Refused n at) ≡ checkIn l state s → Refused n at ≡ checkedOf (listingIn l state s) → 0 ≡ wholeAt l s
   unfolding asAnswer listingIn

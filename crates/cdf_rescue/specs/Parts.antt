@@ -1,14 +1,24 @@
 -- What the parts of a rescue tell, for private contracts: no claim and no contract that is open to callers cites it.
 use Prim.Native.Nat.{ℕ, _+_, _-_, _≤_, _<_}
 use mathlib.Core.Path.{_≡_}
-use mathlib.Core.Bool.{true, false}
+use mathlib.Core.Bool.{Bool, true, false, not}
 use mathlib.Core.List.{List, _++_}
 use mathlib.Core.Logic.{_⊎_}
+use lib.Dec.{eqb}
 use lib.ListN.{length, take, drop}
+use Rattle.cdf_unit_table.specs.Ids.{erGroup}
+use Rattle.cdf_unit_table.specs.States.{admit, nothing}
 use Rattle.cdf_unit_prefix.specs.Layout.{Layout, prefixOf}
+use Rattle.cdf_unit_prefix.specs.declared.Header.{Header}
+use Rattle.cdf_unit_prefix.specs.declared.Header.the-variants.{Stop, Prefix}
 use Rattle.cdf_rescue_spec.specs.Salvage.{wholeAt, piecesFrom, pieces, keptBytes, Run, runsOf, mostRuns}
 use Rattle.cdf_rescue.specs.Numbers.{firsts, ends}
 use Rattle.cdf_rescue.specs.declared.Found.{Found}
+
+-- A prefix keeps the rules 3 to 7 in an E/R group.
+abbrev pub isHeaded : Header → Bool
+isHeaded (Stop n) = false
+isHeaded (Prefix id action len) = not (eqb (admit (nothing erGroup) id) 0)
 
 -- No unit stands whole from a position up to another, which is the end, or one does there.
 pub record Gap (l : Layout) (s : List ℕ) (at to : ℕ) : Type 0 where

@@ -3,11 +3,13 @@ ghost use mathlib.Core.Path.{_≡_};
 ghost use Prim.Native.Nat.{_≤_};
 ghost use lib.ListN.{length};
 ghost use Rattle.cdf_unit_prefix.specs.Layout.{layoutOf, prefixOf};
+ghost use mathlib.Core.Bool.{false};
+ghost use Rattle.cdf_unit_prefix.specs.Rules.{headOf};
 ghost use Rattle.cdf_unit_prefix.specs.declared.Edition.the-variants.{First};
 ghost use Rattle.cdf_builder_write.specs.Patch.{patch};
 ghost use Rattle.cdf_rescue_spec.specs.Salvage.{wholeAt, refusal, groupOf, rescueOf};
 ghost use Rattle.cdf_rescue.specs.Numbers.{reportOf};
-ghost use Rattle.cdf_rescue.specs.Parts.{Gap, Span, Scanned, keptOf, Kept};
+ghost use Rattle.cdf_rescue.specs.Parts.{isHeaded, Gap, Span, Scanned, keptOf, Kept};
 use cdf_builder_write::write_bytes;
 use cdf_builder_write::write_length;
 use cdf_builder_write::write_unit;
@@ -16,9 +18,12 @@ use cdf_check::check_nested;
 use cdf_unit_judge::Judged;
 use cdf_unit_judge::judge;
 use cdf_unit_prefix::Edition;
+use cdf_unit_prefix::Header;
+use cdf_unit_prefix::head;
 use cdf_unit_prefix::limit;
 use cdf_unit_prefix::prefix;
 use cdf_unit_table::ER_NEW;
+use cdf_unit_table::state_after;
 
 // What a rescue answers: the number; how many bytes the group has; how many runs were dropped, and of each the first byte and the byte
 // after its last. Entries that are not used are 0, and beside a number other than 0 all are.
@@ -65,6 +70,20 @@ fn whole_at(edition: Edition, s: &[u8]) -> usize
     }
 }
 
+// Whether a prefix stands at the front of s that keeps the rules 3 to 7 in an E/R group. It stands at few bytes, so the scan asks for it first.
+fn is_headed(edition: Edition, s: &[u8]) -> bool
+    ensures { λ r. ⌜ r ≡ isHeaded (headOf (layoutOf edition) false (now (s .entry))) ⌝ }
+{
+    match head(edition, false, s) {
+        Header::Stop(_) => false,
+        Header::Prefix {
+            id,
+            action: _,
+            length: _,
+        } => state_after(ER_NEW, id) != 0,
+    }
+}
+
 // Where the next unit stands whole, from a position on; the end where none does.
 fn next_whole(edition: Edition, s: &[u8], from: usize) -> usize
     requires { ⌜ from ≤ length (now s) ⌝ }
@@ -72,8 +91,10 @@ fn next_whole(edition: Edition, s: &[u8], from: usize) -> usize
 {
     let mut at = from;
     while at < s.len() {
-        if whole_at(edition, &s[at..]) != 0 {
-            return at;
+        if is_headed(edition, &s[at..]) {
+            if whole_at(edition, &s[at..]) != 0 {
+                return at;
+            }
         }
         at += 1;
     }

@@ -12,7 +12,7 @@ use types.Run.{OneOf}
 use Rattle.cdf_unit_table.specs.Ids.{call, parameter, template, temporaryKey, templateKey, field, entityKey, relationKey, line}
 use Rattle.cdf_unit_table.proofs.Match.{each}
 use Rattle.cdf_unit_table.proofs.Bools.{clash}
-use Rattle.cdf_unit_data.specs.Data.{nameOf, valueFrom, valueAfter, numbersOf, dataBy, ownData}
+use Rattle.cdf_unit_data.specs.Data.{nameOf, valueFrom, valueAfter, numbersOf, dataBy, ownDataBy, ownData}
 use Rattle.cdf_unit_data.specs.Claims.{ValueAt, Alone, Leading}
 use Rattle.cdf_unit_data.specs.declared.Own.the-variants.{Taken, Broken}
 
@@ -47,12 +47,12 @@ apart n m = ((λ e. sides (eqb-false m n e)), (λ p. ne-eqb m n (differ p)))
 
 module _ (s : List ℕ) where
   pub names : (id k : ℕ) → OneOf (call ∷ parameter ∷ template ∷ field ∷ entityKey ∷ []) id → nameOf s ≡ Broken k → ownData id s ≡ Broken k
-  unfolding ownData dataBy valueAfter
+  unfolding ownDataBy dataBy valueAfter
   names id k o e =
       each (λ id. ownData id s ≡ Broken k) (call ∷ parameter ∷ template ∷ field ∷ entityKey ∷ []) (e, (rw e, (e, (rw e, (e, record {}))))) id o
 
   value-is : (id at : ℕ) → ValueAt id s at → ownData id s ≡ valueFrom at s
-  unfolding ownData dataBy valueAfter
+  unfolding ownDataBy dataBy valueAfter
   value-is id at (inl (o, e)) = each (λ id. ownData id s ≡ valueFrom at s) (parameter ∷ field ∷ []) (rw e, (rw e, record {})) id o
   value-is id at (inr (o, e)) = each (λ id. ownData id s ≡ valueFrom at s) (templateKey ∷ line ∷ []) (rw e, (rw e, record {})) id o
 
@@ -62,12 +62,12 @@ module _ (s : List ℕ) where
       rw (value-is id at w) (broken-if (leb (length s) (at + 4096)) (at + 4096 < length s) at (at + 4096) k (over (length s) (at + 4096)))
 
   pub cut-short : (id n k : ℕ) → Leading id n → (ownData id s ≡ Broken k) ↔ ((length s < n) × (k ≡ 0))
-  unfolding ownData dataBy numbersOf
+  unfolding ownDataBy dataBy numbersOf
   cut-short id n k (inl (o, e)) = rw (o, e) (broken-if (leb 4 (length s)) (length s < 4) 4 0 k (over 4 (length s)))
   cut-short id n k (inr (o, e)) = rw (o, e) (broken-if (leb 8 (length s)) (length s < 8) 8 0 k (over 8 (length s)))
 
   pub too-long : (id n k : ℕ) → Alone id n → (ownData id s ≡ Broken k) ↔ (((length s < n) ⊎ (n < length s)) × (k ≡ 0))
-  unfolding ownData dataBy numbersOf
+  unfolding ownDataBy dataBy numbersOf
   too-long id n k (o, e) =
       let four : (numbersOf 4 false s ≡ Broken k) ↔ (((length s < 4) ⊎ (4 < length s)) × (k ≡ 0)) =
       broken-if (eqb (length s) 4) ((length s < 4) ⊎ (4 < length s)) 4 0 k (apart 4 (length s)) in

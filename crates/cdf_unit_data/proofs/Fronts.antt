@@ -10,7 +10,7 @@ use lib.ListN.{length, take}
 use Rattle.cdf_unit_table.specs.Ids.{Rule, blank, name, nameValue, value, numbers, kindOf}
 use Rattle.cdf_unit_table.specs.States.{opens}
 use Rattle.cdf_unit_table.proofs.Bools.{clash}
-use Rattle.cdf_unit_data.specs.Data.{spelled, nameOf, valueFrom, valueAfter, numbersOf, dataBy, ownData}
+use Rattle.cdf_unit_data.specs.Data.{nameBytes, spelled, nameBy, nameOf, valueFrom, valueAfter, numbersOf, dataBy, ownDataBy, ownData}
 use Rattle.cdf_unit_data.specs.Claims.{Agree}
 use Rattle.cdf_unit_data.specs.declared.Own.{Own}
 use Rattle.cdf_unit_data.specs.declared.Own.the-variants.{Taken, Broken}
@@ -18,7 +18,7 @@ use Rattle.cdf_unit_data.proofs.Pointing.{named}
 
 -- A right name takes its count byte and so many more.
 name-count : (count : ℕ) (s : List ℕ) (k : ℕ) → nameOf (count ∷ s) ≡ Taken k → k ≡ suc count
-unfolding nameOf spelled
+unfolding nameBy spelled
 name-count count s k e =
     let w = named count s (k, e) in
     let is : Taken (1 + count) ≡ Taken k = sym (rw (w .0, w .1, eq-eqb count count refl)) ∙ e in
@@ -26,7 +26,7 @@ name-count count s k e =
     omega arith
 
 name-same : (s t : List ℕ) (k : ℕ) → Agree k s t → nameOf s ≡ Taken k → nameOf t ≡ Taken k
-unfolding nameOf spelled
+unfolding nameBy spelled
 name-same [] t k a e = clash cc
 name-same (c ∷ s) [] k a e = absurd (omega (arith, a .0))
 name-same (c ∷ s) (d ∷ t) k a e =
@@ -51,7 +51,8 @@ value-at s at k e = go (leb (length s) (at + 4096)) e
     go true e = cc
     go false e = clash cc
 
-data-same : (r : Rule) (others : Bool) (s t : List ℕ) (k : ℕ) → Agree k s t → dataBy r others s ≡ Taken k → dataBy r others t ≡ Taken k
+data-same : (r : Rule) (others : Bool) (s t : List ℕ) (k : ℕ) → Agree k s t → dataBy nameBytes r others s ≡ Taken k →
+    dataBy nameBytes r others t ≡ Taken k
 unfolding dataBy numbersOf valueAfter
 data-same blank others s t k a e = e
 data-same name others s t k a e = name-same s t k a e
@@ -66,5 +67,5 @@ data-same value others s t k a e = value-same s t 0 k (a .0) e
 data-same (numbers n) others s t k a e = rw (a .0) e
 
 pub own-same : (id : ℕ) (s t : List ℕ) (k : ℕ) → Agree k s t → ownData id s ≡ Taken k → ownData id t ≡ Taken k
-unfolding ownData
+unfolding ownDataBy
 own-same id = data-same (kindOf id .rule) (opens id)

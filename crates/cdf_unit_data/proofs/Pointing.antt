@@ -10,7 +10,7 @@ use borrow.Author.Tests.{leb-true, eqb-true, eqb-false, eq-eqb}
 use lib.Dec.{leb, eqb}
 use lib.ListN.{length, take, replicate, length-append, length-take, length-replicate}
 use Rattle.cdf_unit_table.proofs.Bools.{both, clash}
-use Rattle.cdf_unit_data.specs.Data.{letter, nameByte, nameRun, nameFront, spelled, nameOf}
+use Rattle.cdf_unit_data.specs.Data.{letter, nameByte, nameBytes, runBy, frontBy, nameBy, nameRun, nameFront, spelled, nameOf}
 use Rattle.cdf_unit_data.specs.Claims.{Agree, Named, lettered}
 use Rattle.cdf_unit_data.specs.declared.Own.the-variants.{Taken, Broken}
 use Rattle.cdf_unit_data.proofs.Names.{front-short}
@@ -27,7 +27,7 @@ more-agrees false n r q x y h e on = refl
 
 run-agrees : (n : ℕ) (x y : List ℕ) → n ≤ length x → nameRun (take n x) < n →
     take (suc (nameRun (take n x))) y ≡ take (suc (nameRun (take n x))) x → nameRun (take n y) ≡ nameRun (take n x)
-unfolding nameRun
+unfolding runBy
 run-agrees zero x y few h e = refl
 run-agrees (suc n) [] y few h e = absurd (omega arith)
 run-agrees (suc n) (b ∷ x) [] few h e = clash cc
@@ -39,7 +39,7 @@ run-agrees (suc n) (b ∷ x) (c ∷ y) few h e =
 
 front-agrees : (n : ℕ) (x y : List ℕ) → n ≤ length x → nameFront (take n x) < n →
     take (suc (nameFront (take n x))) y ≡ take (suc (nameFront (take n x))) x → nameFront (take n y) ≡ nameFront (take n x)
-unfolding nameFront
+unfolding frontBy
 front-agrees zero x y few h e = refl
 front-agrees (suc n) [] y few h e = absurd (omega arith)
 front-agrees (suc n) (b ∷ x) [] few h e = clash cc
@@ -55,7 +55,7 @@ more-mends true r n q m h on = ap suc (on (omega arith))
 more-mends false r n q m h on = absurd (omega arith)
 
 run-mends : (r n m : ℕ) (x : List ℕ) → n ≤ r + m → r ≤ nameRun (take n x) → nameRun (take n (take r x ++ replicate m 65)) ≡ n
-unfolding nameRun
+unfolding runBy
 run-mends zero zero m x few h = refl
 run-mends zero (suc n) zero x few h = absurd (omega arith)
 run-mends zero (suc n) (suc m) x few h = ap suc (run-mends zero n m x (omega arith) (omega arith))
@@ -66,7 +66,7 @@ run-mends (suc r) (suc n) m (b ∷ x) few h =
 
 front-mends : (r n m : ℕ) (x : List ℕ) → n ≤ r + m → r ≤ nameFront (take n x) →
     nameFront (take n (take r x ++ replicate m 65)) ≡ n
-unfolding nameFront
+unfolding frontBy
 front-mends r zero m x few h = refl
 front-mends zero (suc n) zero x few h = absurd (omega arith)
 front-mends zero (suc n) (suc m) x few h = ap suc (run-mends zero n m [] (omega arith) (omega arith))
@@ -90,7 +90,7 @@ record Bad (count : ℕ) (s : List ℕ) (k : ℕ) : Type 0 where
   short : nameFront (take count s) < count
 
 broken : (count : ℕ) (s : List ℕ) (k : ℕ) → nameOf (count ∷ s) ≡ Broken k → ((counts count (length s) ≡ false) × (k ≡ 0)) ⊎ Bad count s k
-unfolding nameOf spelled
+unfolding nameBy spelled
 broken count s k e = go (counts count (length s)) refl e
   where
     front : ℕ
@@ -99,7 +99,7 @@ broken count s k e = go (counts count (length s)) refl e
     spell : (b : Bool) → eqb front count ≡ b → cond b (Taken (1 + count)) (Broken (1 + front)) ≡ Broken k → (k ≡ suc front) × (front < count)
     spell true q e = clash cc
     spell false q e =
-        let same : 1 + front ≡ k = cc in (omega arith, omega (arith, eqb-false front count q, front-short count s))
+        let same : 1 + front ≡ k = cc in (omega arith, omega (arith, eqb-false front count q, front-short nameBytes count s))
 
     go : (b : Bool) → counts count (length s) ≡ b → cond b (spelled count front) (Broken 0) ≡ Broken k →
         ((counts count (length s) ≡ false) × (k ≡ 0)) ⊎ Bad count s k
@@ -108,7 +108,7 @@ broken count s k e = go (counts count (length s)) refl e
 
 -- A right name has a right count, and all its bytes may stand there.
 pub named : (count : ℕ) (s : List ℕ) → Named (count ∷ s) → (counts count (length s) ≡ true) × (nameFront (take count s) ≡ count)
-unfolding nameOf spelled
+unfolding nameBy spelled
 named count s (k, e) = go (counts count (length s)) refl e
   where
     front : ℕ
@@ -124,7 +124,7 @@ named count s (k, e) = go (counts count (length s)) refl e
     go false q e = clash cc
 
 pub offends : (s : List ℕ) (k : ℕ) → nameOf s ≡ Broken k → (t : List ℕ) → Agree (suc k) s t → Named t → ⊥
-unfolding nameOf
+unfolding nameBy
 offends [] k e [] agree right = let e = right .1 in clash cc
 offends [] k e (c ∷ t) agree right = omega (arith, agree .0)
 offends (count ∷ s) k e [] agree right = omega (arith, agree .0)
@@ -144,7 +144,7 @@ offends (count ∷ s) k e (c ∷ t) agree right =
         omega (arith, same, right .1, bad .short)
 
 pub mends : (s : List ℕ) (k : ℕ) → nameOf s ≡ Broken (suc k) → Agree (suc k) s (lettered (suc k) s) × Named (lettered (suc k) s)
-unfolding nameOf spelled
+unfolding nameBy spelled
 mends [] k e = clash cc
 mends (count ∷ s) k e = by-count (broken count s (suc k) e)
   where

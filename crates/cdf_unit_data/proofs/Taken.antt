@@ -9,7 +9,7 @@ use lib.Dec.{leb, eqb}
 use lib.ListN.{length, take}
 use Rattle.cdf_unit_table.specs.Ids.{Rule, blank, name, nameValue, value, numbers, kindOf}
 use Rattle.cdf_unit_table.specs.States.{opens}
-use Rattle.cdf_unit_data.specs.Data.{nameFront, spelled, nameOf, valueFrom, valueAfter, dataBy, ownData}
+use Rattle.cdf_unit_data.specs.Data.{NameBytes, frontBy, spelled, nameBy, valueFrom, valueAfter, dataBy, ownDataBy}
 use Rattle.cdf_unit_data.specs.declared.Own.{Own}
 use Rattle.cdf_unit_data.specs.declared.Own.the-variants.{Taken, Broken}
 use Rattle.cdf_unit_table.proofs.Bools.{both, of-cond}
@@ -26,18 +26,18 @@ spelled-fits count front n h f =
     of-cond (Fits n) (eqb front count) (Taken (1 + count)) (Broken (1 + front)) (λ e. h) (λ e. omega arith)
 
 -- a name takes its count and so many bytes more
-name-fits : (s : List ℕ) (n : ℕ) → ((count : ℕ) → count ≤ 32 → 1 + count ≤ length s → 1 + count ≤ n) → Fits n (nameOf s)
-unfolding nameOf
-name-fits [] n few = omega arith
-name-fits (count ∷ s) n few =
+name-fits : (w : NameBytes) (s : List ℕ) (n : ℕ) → ((count : ℕ) → count ≤ 32 → 1 + count ≤ length s → 1 + count ≤ n) → Fits n (nameBy w s)
+unfolding nameBy
+name-fits w [] n few = omega arith
+name-fits w (count ∷ s) n few =
     of-cond (Fits n) (leb 1 count && (leb count 32 && leb count (length s))) _ (Broken 0)
     (λ e. let h = both (leb count 32) (leb count (length s)) (both (leb 1 count) _ e .1) in
     let within = leb-true count (length s) (h .1) in
-    spelled-fits count (nameFront (take count s)) n (few count (leb-true count 32 (h .0)) (omega arith)) (front-short count s))
+    spelled-fits count (frontBy w (take count s)) n (few count (leb-true count 32 (h .0)) (omega arith)) (front-short w count s))
     (λ e. omega arith)
 
-pub name-short : (s : List ℕ) (k : ℕ) → nameOf s ≡ Taken k → k ≤ 33
-name-short s k e = subst (Fits 33) e (name-fits s 33 (λ count low within. omega arith))
+pub name-short : (w : NameBytes) (s : List ℕ) (k : ℕ) → nameBy w s ≡ Taken k → k ≤ 33
+name-short w s k e = subst (Fits 33) e (name-fits w s 33 (λ count low within. omega arith))
 
 value-fits : (k : ℕ) (s : List ℕ) → k ≤ length s → Fits (length s) (valueFrom k s)
 unfolding valueFrom
@@ -54,20 +54,20 @@ enough : (n m : ℕ) (others : Bool) → cond others (leb n m) (eqb m n) ≡ tru
 enough n m true e = leb-true n m e
 enough n m false e = omega (arith, eqb-true m n e)
 
-data-fits : (r : Rule) (others : Bool) (s : List ℕ) → Fits (length s) (dataBy r others s)
+data-fits : (w : NameBytes) (r : Rule) (others : Bool) (s : List ℕ) → Fits (length s) (dataBy w r others s)
 unfolding dataBy
-data-fits blank others s = omega arith
-data-fits name others s = name-fits s (length s) (λ count low within. within)
-data-fits nameValue others s = after-fits s (nameOf s) (name-fits s (length s) (λ count low within. within))
-data-fits value others s = value-fits 0 s (omega arith)
-data-fits (numbers n) others s =
+data-fits w blank others s = omega arith
+data-fits w name others s = name-fits w s (length s) (λ count low within. within)
+data-fits w nameValue others s = after-fits s (nameBy w s) (name-fits w s (length s) (λ count low within. within))
+data-fits w value others s = value-fits 0 s (omega arith)
+data-fits w (numbers n) others s =
     of-cond (Fits (length s)) (cond others (leb n (length s)) (eqb (length s) n)) (Taken n) (Broken 0)
     (enough n (length s) others) (λ e. omega arith)
 
-pub taken-fits : (id : ℕ) (s : List ℕ) (k : ℕ) → ownData id s ≡ Taken k → k ≤ length s
-unfolding ownData
-taken-fits id s k e = subst (Fits (length s)) e (data-fits (kindOf id .rule) (opens id) s)
+pub taken-fits : (w : NameBytes) (id : ℕ) (s : List ℕ) (k : ℕ) → ownDataBy w id s ≡ Taken k → k ≤ length s
+unfolding ownDataBy
+taken-fits w id s k e = subst (Fits (length s)) e (data-fits w (kindOf id .rule) (opens id) s)
 
-pub broken-fits : (id : ℕ) (s : List ℕ) (k : ℕ) → ownData id s ≡ Broken k → k ≤ length s
-unfolding ownData
-broken-fits id s k e = subst (Fits (length s)) e (data-fits (kindOf id .rule) (opens id) s)
+pub broken-fits : (w : NameBytes) (id : ℕ) (s : List ℕ) (k : ℕ) → ownDataBy w id s ≡ Broken k → k ≤ length s
+unfolding ownDataBy
+broken-fits w id s k e = subst (Fits (length s)) e (data-fits w (kindOf id .rule) (opens id) s)

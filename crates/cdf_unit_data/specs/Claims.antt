@@ -6,7 +6,8 @@ use mathlib.Core.Logic.{_⊎_, _↔_}
 use lib.ListN.{length, take, replicate}
 use types.Run.{OneOf}
 use Rattle.cdf_unit_table.specs.Ids.{call, parameter, template, temporaryKey, templateKey, field, relation, orderedRelation, entityKey, relationKey, line}
-use Rattle.cdf_unit_data.specs.Data.{nameOf, ownData}
+use Rattle.cdf_unit_data.specs.Data.{nameBytes, nameOf, ownData}
+use Rattle.cdf_unit_data.specs.Standing.{nameRow, rowBytes}
 use Rattle.cdf_unit_data.specs.declared.Own.the-variants.{Taken, Broken}
 
 -- As many bytes, and the first k of them are the same.
@@ -49,3 +50,5 @@ pub record Claims : Type 0 where
   -- or too long, in a unit that holds nothing else.
   pub too-long : (s : List ℕ) (id n k : ℕ) → Alone id n →
       (ownData id s ≡ Broken k) ↔ (((length s < n) ⊎ (n < length s)) × (k ≡ 0))
+  -- The bytes that the row lets stand in a name, as its first and behind that, are 01's: of any number that is looked up in it.
+  pub row-says : rowBytes nameRow ≡ nameBytes

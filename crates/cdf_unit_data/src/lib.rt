@@ -1,8 +1,10 @@
 // The own data of a unit, on the bytes after its prefix.
 ghost use mathlib.Core.Path.{_≡_};
 ghost use Prim.Native.Nat.{_≤_};
-ghost use Rattle.cdf_unit_data.specs.Standing.{nameRow};
-ghost use Rattle.cdf_unit_data.specs.Data.{letter, nameByte, nameFront, nameOf, valueFrom, valueAfter, numbersOf, ownData};
+ghost use mathlib.Core.List.{[], _∷_};
+ghost use types.Run.{OneOf};
+ghost use Rattle.cdf_unit_data.specs.Standing.{rowBytes};
+ghost use Rattle.cdf_unit_data.specs.Data.{NameBytes, frontBy, nameBy, valueFrom, valueAfter, numbersOf, ownDataBy, ownData};
 use crate::row::ANYWHERE;
 use crate::row::NAME_BYTES;
 use crate::row::NOWHERE;
@@ -18,7 +20,7 @@ use cdf_unit_table::TEMPLATE;
 use cdf_unit_table::TEMPLATE_KEY;
 use cdf_unit_table::TEMPORARY_KEY;
 
-mod row;
+pub mod row;
 
 // What a unit's own data is: its name or fixed numbers take so many bytes, or this byte is the first that breaks its rule.
 pub enum Own {
@@ -26,35 +28,33 @@ pub enum Own {
     Broken(usize),
 }
 
-// A letter may stand anywhere in a name.
-fn is_letter(row: &[u8; 256], b: u8) -> bool
-    requires { ⌜ now row ≡ nameRow ⌝ }
-    ensures { λ r. ⌜ r ≡ letter b ⌝ }
+// By the row, a byte may stand anywhere in a name.
+fn is_first(row: &[u8; 256], b: u8) -> bool
+    ensures { λ r. ⌜ r ≡ rowBytes (now (row .entry)) .first b ⌝ }
 {
     row[b as usize] == ANYWHERE
 }
 
-fn is_name_byte(row: &[u8; 256], b: u8) -> bool
-    requires { ⌜ now row ≡ nameRow ⌝ }
-    ensures { λ r. ⌜ r ≡ nameByte b ⌝ }
+// By the row, a byte may stand in a name after its first.
+fn is_later(row: &[u8; 256], b: u8) -> bool
+    ensures { λ r. ⌜ r ≡ rowBytes (now (row .entry)) .later b ⌝ }
 {
     row[b as usize] != NOWHERE
 }
 
 // How many bytes from the front may stand in a name from its first on, by the row.
-fn front_by(row: &[u8; 256], s: &[u8]) -> usize
-    requires { ⌜ now row ≡ nameRow ⌝ }
-    ensures { λ r. ⌜ r ≡ nameFront (now (s .entry)) ⌝ }
+fn name_front(row: &[u8; 256], s: &[u8]) -> usize
+    ensures { λ r. ⌜ r ≡ frontBy (rowBytes (now (row .entry))) (now (s .entry)) ⌝ }
 {
     if s.len() == 0 {
         return 0;
     }
-    if !is_letter(row, s[0]) {
+    if !is_first(row, s[0]) {
         return 0;
     }
     let mut i = 1;
     while i < s.len() {
-        if !is_name_byte(row, s[i]) {
+        if !is_later(row, s[i]) {
             return i;
         }
         i += 1;
@@ -62,17 +62,9 @@ fn front_by(row: &[u8; 256], s: &[u8]) -> usize
     i
 }
 
-// The same. An array that is constant is made anew where it is named: so once for a whole name.
-fn name_front(s: &[u8]) -> usize
-    ensures { λ r. ⌜ r ≡ nameFront (now (s .entry)) ⌝ }
-{
-    let row = NAME_BYTES;
-    front_by(&row, s)
-}
-
 // A name with its count at the front.
-fn name(s: &[u8]) -> Own
-    ensures { λ r. ⌜ r ≡ nameOf (now (s .entry)) ⌝ }
+fn name(row: &[u8; 256], s: &[u8]) -> Own
+    ensures { λ r. ⌜ r ≡ nameBy (rowBytes (now (row .entry))) (now (s .entry)) ⌝ }
 {
     if s.len() == 0 {
         return Own::Broken(0);
@@ -88,7 +80,7 @@ fn name(s: &[u8]) -> Own
         return Own::Broken(0);
     }
     let end = 1 + count;
-    let front = name_front(&s[1..end]);
+    let front = name_front(row, &s[1..end]);
     if front == count {
         Own::Taken(end)
     } else {
@@ -110,10 +102,10 @@ fn value(k: usize, s: &[u8]) -> Own
 }
 
 // A name, and a value after it.
-fn name_and_value(s: &[u8]) -> Own
-    ensures { λ r. ⌜ r ≡ valueAfter (now (s .entry)) (nameOf (now (s .entry))) ⌝ }
+fn name_and_value(row: &[u8; 256], s: &[u8]) -> Own
+    ensures { λ r. ⌜ r ≡ valueAfter (now (s .entry)) (nameBy (rowBytes (now (row .entry))) (now (s .entry))) ⌝ }
 {
-    match name(s) {
+    match name(row, s) {
         Own::Taken(k) => value(k, s),
         Own::Broken(k) => Own::Broken(k),
     }
@@ -136,17 +128,44 @@ fn numbers(n: usize, others: bool, s: &[u8]) -> Own
     }
 }
 
-// The own data of a unit with this id, on the bytes after its prefix.
-pub fn own_data(id: usize, s: &[u8]) -> Own
-    ensures { λ r. ⌜ r ≡ ownData id (now (s .entry)) ⌝ }
+// The own data of a unit that has no name: the same by any row.
+fn unnamed(id: usize, s: &[u8]) -> Own
+    requires { ⌜ (OneOf (2 ∷ 5 ∷ 11 ∷ []) id → ⊥) × (OneOf (3 ∷ 8 ∷ []) id → ⊥) ⌝ }
+    ensures { λ r. ⌜ ((w : NameBytes) → r ≡ ownDataBy w id (now (s .entry))) ⌝ }
 {
     match id {
-        CALL | TEMPLATE | ENTITY_KEY => name(s),
-        PARAMETER | FIELD => name_and_value(s),
         TEMPLATE_KEY | LINE => value(0, s),
         TEMPORARY_KEY | RELATION_KEY => numbers(4, false, s),
         RELATION => numbers(4, true, s),
         ORDERED_RELATION => numbers(8, true, s),
         _ => Own::Taken(0),
+    }
+}
+
+// The own data of a unit with this id, on the bytes after its prefix, by a row of name bytes: a loop makes that once.
+pub fn own_data_by(row: &[u8; 256], id: usize, s: &[u8]) -> Own
+    ensures { λ r. ⌜ r ≡ ownDataBy (rowBytes (now (row .entry))) id (now (s .entry)) ⌝ }
+{
+    match id {
+        CALL | TEMPLATE | ENTITY_KEY => name(row, s),
+        PARAMETER | FIELD => name_and_value(row, s),
+        _ => unnamed(id, s),
+    }
+}
+
+// The same by the format's row. A constant array is made anew where it is named: so only for a unit that has a name.
+pub fn own_data(id: usize, s: &[u8]) -> Own
+    ensures { λ r. ⌜ r ≡ ownData id (now (s .entry)) ⌝ }
+{
+    match id {
+        CALL | TEMPLATE | ENTITY_KEY => {
+            let row = NAME_BYTES;
+            name(&row, s)
+        }
+        PARAMETER | FIELD => {
+            let row = NAME_BYTES;
+            name_and_value(&row, s)
+        }
+        _ => unnamed(id, s),
     }
 }

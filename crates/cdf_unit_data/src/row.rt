@@ -1,13 +1,13 @@
 // Where each byte may stand in a name.
 
-pub(crate) const NOWHERE: u8 = 0;
+pub const NOWHERE: u8 = 0;
 
-pub(crate) const NOT_FIRST: u8 = 1;
+pub const NOT_FIRST: u8 = 1;
 
-pub(crate) const ANYWHERE: u8 = 2;
+pub const ANYWHERE: u8 = 2;
 
 // By the byte.
-pub(crate) const NAME_BYTES: [u8; 256] = [
+pub const NAME_BYTES: [u8; 256] = [
     // 0 to 47
     NOWHERE,
     NOWHERE,

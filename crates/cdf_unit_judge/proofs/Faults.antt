@@ -10,11 +10,12 @@ use lib.Dec.{ltb, eqb}
 use lib.ListN.{length, take, drop, length-take, length-drop}
 use Rattle.cdf_unit_table.specs.Ids.{known}
 use Rattle.cdf_unit_table.specs.States.{admits}
+use Rattle.cdf_unit_data.specs.Data.{NameBytes, nameBytes}
 use Rattle.cdf_unit_prefix.specs.Layout.{Layout, prefixOf, marked, lengthAt, idAt, actionAt, lengthFits}
 use Rattle.cdf_unit_prefix.specs.Rules.{headOf}
 use Rattle.cdf_unit_prefix.specs.declared.Header.{Header}
 use Rattle.cdf_unit_prefix.specs.declared.Header.the-variants.{Stop, Prefix}
-use Rattle.cdf_unit_judge.specs.Judge.{bodyOf, foundBy, judgeHead, judgeBy, judgeOf}
+use Rattle.cdf_unit_judge.specs.Judge.{bodyBy, foundBy, judgeHead, judgeBy, judgeIn, judgeOf}
 use Rattle.cdf_unit_judge.specs.declared.Body.{Body}
 use Rattle.cdf_unit_judge.specs.declared.Body.the-variants.{Action, Data, Whole}
 use Rattle.cdf_unit_judge.specs.declared.Judged.{Judged}
@@ -69,30 +70,33 @@ module _ (l : Layout) (root : Bool) (s : List ℕ) where
   of-body id action len state (Data k) told = told k refl
   of-body id action len state (Whole k) told = record {}
 
-  by-head : (state : ℕ) (h : Header) → headOf l root s ≡ h → OfHeader h → OfJudged l root s (judgeHead l (admits root state) s h)
+  by-head : (w : NameBytes) (state : ℕ) (h : Header) → headOf l root s ≡ h → OfHeader h → OfJudged l root s (judgeHead w l (admits root state) s h)
   unfolding judgeHead
-  by-head state (Stop n) q p = at-start n (p .0) (omega arith)
-  by-head state (Prefix id action len) q p =
+  by-head w state (Stop n) q p = at-start n (p .0) (omega arith)
+  by-head w state (Prefix id action len) q p =
       let rest = take (len - prefixOf l) (drop (prefixOf l) s) in
       let fit = headed l root s id action len q in
       let long : length rest ≡ len - prefixOf l = simp (length-take, length-drop) (omega arith) in
       of-cond (OfJudged l root s) (eqb (admits root state id) 0) (Fault 7 0) _ (λ e. at-start 7 (omega arith) (omega arith))
-      (λ may. of-body id action len (admits root state id) (bodyOf id action rest)
-      (λ k e. let few = fault-fits id action rest k e in record {
+      (λ may. of-body id action len (admits root state id) (bodyBy w id action rest)
+      (λ k e. let few = fault-fits w id action rest k e in record {
         low = omega arith;
         high = omega arith;
         lies = omega arith;
-        nested = λ nine. root-whole root state id action rest (eqb-false _ 0 may) e;
+        nested = λ nine. root-whole w root state id action rest (eqb-false _ 0 may) e;
         behind = λ nine. omega arith;
         inside = λ nine. omega (arith, fit .isLength);
       }))
 
-  pub of-judge : (state : ℕ) → OfJudged l root s (judgeOf l root state s)
-  unfolding judgeOf judgeBy
-  of-judge state = by-head state (headOf l root s) refl of-head
+  of-judge : (w : NameBytes) (state : ℕ) → OfJudged l root s (judgeIn w l root state s)
+  unfolding judgeIn judgeBy
+  of-judge w state = by-head w state (headOf l root s) refl of-head
+
+  pub told-by : (w : NameBytes) (state : ℕ) {n k : ℕ} → judgeIn w l root state s ≡ Fault n k → Told l root s n k
+  told-by w state e = subst (OfJudged l root s) e (of-judge w state)
 
   pub told : (state : ℕ) {n k : ℕ} → judgeOf l root state s ≡ Fault n k → Told l root s n k
-  told state e = subst (OfJudged l root s) e (of-judge state)
+  told = told-by nameBytes
 
 pub offset-lies : (l : Layout) (root : Bool) (state : ℕ) (s : List ℕ) {n k : ℕ} → judgeOf l root state s ≡ Fault n k → k ≤ length s
 offset-lies l root state s e = told l root s state e .lies

@@ -1,8 +1,8 @@
 -- A unit that the judge passes is one that keeps the rules 3 to 9, and the other way round.
-use mathlib.Core.Path.{_≡_, refl}
+use mathlib.Core.Path.{_≡_, refl, sym}
 use mathlib.Core.Bool.{Bool, false, true, not}
 use mathlib.Core.List.{List}
-use Prim.Native.Nat.{ℕ, _≤_, _+_, _-_}
+use Prim.Native.Nat.{ℕ, _≤_, _<_, _+_, _-_}
 use native.Mathlib.Omega.{arith}
 use borrow.Author.Tests.{not-false, ltb-false, le-ltb, eqb-true, eq-eqb, eqb-false, ne-eqb, leb-true, le-leb}
 use lib.Dec.{ltb, eqb, leb}
@@ -10,11 +10,12 @@ use lib.ListN.{length, take, drop, length-take, length-drop}
 use Rattle.cdf_unit_prefix.specs.Layout.{Layout, prefixOf, marked, lengthAt, actionAt, idAt, lengthFits}
 use Rattle.cdf_unit_table.specs.Ids.{known, actionAllowed}
 use Rattle.cdf_unit_table.specs.States.{admits}
-use Rattle.cdf_unit_data.specs.Data.{ownData}
+use Rattle.cdf_unit_data.specs.Data.{NameBytes, nameBytes, ownDataBy}
 use Rattle.cdf_unit_prefix.specs.Rules.{headOf}
-use Rattle.cdf_unit_judge.specs.Judge.{dataBody, bodyOf, foundBy, judgeHead, judgeBy, judgeOf}
+use Rattle.cdf_unit_judge.specs.Judge.{dataBody, bodyBy, foundBy, judgeHead, judgeBy, judgeIn, judgeOf}
 use Rattle.cdf_unit_data.specs.declared.Own.{Own}
 use Rattle.cdf_unit_data.specs.declared.Own.the-variants.{Taken, Broken}
+use Rattle.cdf_unit_judge.specs.Short.{Short}
 use Rattle.cdf_unit_prefix.specs.declared.Header.{Header}
 use Rattle.cdf_unit_prefix.specs.declared.Header.the-variants.{Stop, Prefix}
 use Rattle.cdf_unit_judge.specs.declared.Body.{Body}
@@ -23,7 +24,8 @@ use Rattle.cdf_unit_judge.specs.declared.Judged.the-variants.{Fault, Fou
 use Rattle.cdf_unit_table.proofs.Bools.{both, past, clash}
 use Rattle.cdf_unit_data.proofs.Taken.{taken-fits, broken-fits}
 
-pub record Placed (l : Layout) (root : Bool) (state : ℕ) (s : List ℕ) (id action own len next : ℕ) : Type 0 where
+-- By any bytes that may stand in a name.
+pub record PlacedBy (w : NameBytes) (l : Layout) (root : Bool) (state : ℕ) (s : List ℕ) (id action own len next : ℕ) : Type 0 where
   pub mark : marked l s ≡ true
   pub isId : id ≡ idAt l s
   pub isAction : action ≡ actionAt l s
@@ -32,12 +34,15 @@ pub record Placed (l : Layout) (root : Bool) (state : ℕ) (s : List ℕ) (id ac
   pub may : admits root state id ≡ next
   pub some : next ≡ 0 → ⊥
   pub allowed : actionAllowed id action ≡ true
-  pub taken : ownData id (take (len - prefixOf l) (drop (prefixOf l) s)) ≡ Taken (own - prefixOf l)
+  pub taken : ownDataBy w id (take (len - prefixOf l) (drop (prefixOf l) s)) ≡ Taken (own - prefixOf l)
   pub room : prefixOf l ≤ own
   pub inside : own ≤ len
   pub high : len ≤ length s
   pub whole : root ≡ true → len ≡ length s
   pub short : root ≡ true → len ≤ l .limit
+
+abbrev pub Placed : Layout → Bool → ℕ → List ℕ → ℕ → ℕ → ℕ → ℕ → ℕ → Type 0
+Placed = PlacedBy nameBytes
 
 -- Of the length, that it fits.
 pub record Fitting (l : Layout) (root : Bool) (n len : ℕ) : Type 0 where
@@ -95,40 +100,46 @@ headed l root s id action len e0 =
     stop : (n : ℕ) → Stop n ≡ Prefix id action len → ⊥
     stop n e = clash cc
 
-pub offends : (id action : ℕ) (t : List ℕ) (k : ℕ) → bodyOf id action t ≡ Data k → ownData id t ≡ Broken k
-unfolding bodyOf dataBody
-offends id action t k e =
-    own (ownData id t) (past (not (actionAllowed id action)) Action _ (λ e. clash cc) e .1)
+pub offends : (w : NameBytes) (id action : ℕ) (t : List ℕ) (k : ℕ) → bodyBy w id action t ≡ Data k → ownDataBy w id t ≡ Broken k
+unfolding bodyBy dataBody
+offends w id action t k e =
+    own (ownDataBy w id t) (past (not (actionAllowed id action)) Action _ (λ e. clash cc) e .1)
   where
     own : (x : Own) → dataBody x ≡ Data k → x ≡ Broken k
     own (Taken j) e = clash cc
     own (Broken j) e = cc
 
-held : (id action : ℕ) (t : List ℕ) (k : ℕ) → bodyOf id action t ≡ Whole k →
-    (actionAllowed id action ≡ true) × (ownData id t ≡ Taken k)
-unfolding bodyOf dataBody
-held id action t k e =
-    let w = past (not (actionAllowed id action)) Action _ (λ e. clash cc) e in
-    (not-false (actionAllowed id action) (w .0), own (ownData id t) (w .1))
+held : (w : NameBytes) (id action : ℕ) (t : List ℕ) (k : ℕ) → bodyBy w id action t ≡ Whole k →
+    (actionAllowed id action ≡ true) × (ownDataBy w id t ≡ Taken k)
+unfolding bodyBy dataBody
+held w id action t k e =
+    let passes = past (not (actionAllowed id action)) Action _ (λ e. clash cc) e in
+    (not-false (actionAllowed id action) (passes .0), own (ownDataBy w id t) (passes .1))
   where
     own : (x : Own) → dataBody x ≡ Whole k → x ≡ Taken k
     own (Taken j) e = cc
     own (Broken j) e = clash cc
 
-pub body-fits : (id action : ℕ) (t : List ℕ) (k : ℕ) → bodyOf id action t ≡ Whole k → k ≤ length t
-body-fits id action t k e = taken-fits id t k (held id action t k e .1)
+pub body-fits : (w : NameBytes) (id action : ℕ) (t : List ℕ) (k : ℕ) → bodyBy w id action t ≡ Whole k → k ≤ length t
+body-fits w id action t k e = taken-fits w id t k (held w id action t k e .1)
 
-pub fault-fits : (id action : ℕ) (t : List ℕ) (k : ℕ) → bodyOf id action t ≡ Data k → k ≤ length t
-fault-fits id action t k e = broken-fits id t k (offends id action t k e)
+pub fault-fits : (w : NameBytes) (id action : ℕ) (t : List ℕ) (k : ℕ) → bodyBy w id action t ≡ Data k → k ≤ length t
+fault-fits w id action t k e = broken-fits w id t k (offends w id action t k e)
 
-module _ (l : Layout) (root : Bool) (state : ℕ) (s : List ℕ) where
+-- So in the bytes of a slice what it takes, and the byte that offends, are numbers that a field can hold.
+pub short : (w : NameBytes) (id action : ℕ) (t : List ℕ) (b : Body) → b ≡ bodyBy w id action t → length t < 9223372036854775808 → Short b
+short w id action t Action e h = record {}
+short w id action t (Data k) e h = let few = fault-fits w id action t k (sym e) in omega arith
+short w id action t (Whole k) e h = let few = body-fits w id action t k (sym e) in omega arith
+
+module _ (w : NameBytes) (l : Layout) (root : Bool) (state : ℕ) (s : List ℕ) where
   found : (id action len k : ℕ) → Headed l root s id action len → (admits root state id ≡ 0 → ⊥) →
-      bodyOf id action (take (len - prefixOf l) (drop (prefixOf l) s)) ≡ Whole k →
-      Placed l root state s id action (prefixOf l + k) len (admits root state id)
+      bodyBy w id action (take (len - prefixOf l) (drop (prefixOf l) s)) ≡ Whole k →
+      PlacedBy w l root state s id action (prefixOf l + k) len (admits root state id)
   found id action len k h some e =
       let t = take (len - prefixOf l) (drop (prefixOf l) s) in
-      let w = held id action t k e in
-      let few = body-fits id action t k e in
+      let keeps = held w id action t k e in
+      let few = body-fits w id action t k e in
       let long : length t ≡ len - prefixOf l = simp (length-take, length-drop) (omega arith) in
       let same : prefixOf l + k - prefixOf l ≡ k = omega arith in
       record {
@@ -139,8 +150,8 @@ module _ (l : Layout) (root : Bool) (state : ℕ) (s : List ℕ) where
         recognised = h .recognised;
         may = refl;
         some = some;
-        allowed = w .0;
-        taken = rw same (w .1);
+        allowed = keeps .0;
+        taken = rw same (keeps .1);
         room = omega arith;
         inside = omega arith;
         high = h .fit .high;
@@ -149,17 +160,17 @@ module _ (l : Layout) (root : Bool) (state : ℕ) (s : List ℕ) where
       }
 
   by-head : (h : Header) {id action own len next : ℕ} → headOf l root s ≡ h →
-      judgeHead l (admits root state) s h ≡ Found id action own len next → Placed l root state s id action own len next
+      judgeHead w l (admits root state) s h ≡ Found id action own len next → PlacedBy w l root state s id action own len next
   unfolding judgeHead foundBy
   by-head (Stop n) q e = clash cc
   by-head (Prefix i a n) {id} {action} {own} {len} {next} q e =
-      let w = past (eqb (admits root state i) 0) (Fault 7 0) _ (λ e. clash cc) e in
-      by-body (bodyOf i a (take (n - prefixOf l) (drop (prefixOf l) s))) (w .1)
-      (λ k. found i a n k (headed l root s i a n q) (eqb-false _ 0 (w .0)))
+      let passes = past (eqb (admits root state i) 0) (Fault 7 0) _ (λ e. clash cc) e in
+      by-body (bodyBy w i a (take (n - prefixOf l) (drop (prefixOf l) s))) (passes .1)
+      (λ k. found i a n k (headed l root s i a n q) (eqb-false _ 0 (passes .0)))
     where
       by-body : (c : Body) → foundBy l i a n (admits root state i) c ≡ Found id action own len next →
-          ((k : ℕ) → c ≡ Whole k → Placed l root state s i a (prefixOf l + k) n (admits root state i)) →
-          Placed l root state s id action own len next
+          ((k : ℕ) → c ≡ Whole k → PlacedBy w l root state s i a (prefixOf l + k) n (admits root state i)) →
+          PlacedBy w l root state s id action own len next
       by-body Action e facts = clash cc
       by-body (Data k) e facts = clash cc
       by-body (Whole k) e facts =
@@ -170,14 +181,19 @@ module _ (l : Layout) (root : Bool) (state : ℕ) (s : List ℕ) where
           let ex : admits root state id ≡ next = cc in
           rw (ei, ea, eo, en, ex) at (facts k refl)
 
+  pub placed-by : {id action own len next : ℕ} → judgeIn w l root state s ≡ Found id action own len next →
+      PlacedBy w l root state s id action own len next
+  unfolding judgeIn judgeBy
+  placed-by e = by-head (headOf l root s) refl e
+
+module _ (l : Layout) (root : Bool) (state : ℕ) (s : List ℕ) where
   pub placed : {id action own len next : ℕ} → judgeOf l root state s ≡ Found id action own len next →
       Placed l root state s id action own len next
-  unfolding judgeOf judgeBy
-  placed e = by-head (headOf l root s) refl e
+  placed e = placed-by nameBytes l root state s e
 
   pub judged : {id action own len next : ℕ} → Placed l root state s id action own len next →
       judgeOf l root state s ≡ Found id action own len next
-  unfolding judgeOf judgeBy judgeHead headOf foundBy bodyOf dataBody
+  unfolding judgeIn judgeBy judgeHead headOf foundBy bodyBy dataBody
   judged {own = own} {len = len} {next = next} p =
       let full : prefixOf l ≤ length s = omega arith in
       let low : prefixOf l ≤ len = omega arith in

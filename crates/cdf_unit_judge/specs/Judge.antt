@@ -9,7 +9,7 @@ use Rattle.cdf_unit_prefix.specs.Layout.{Layout, prefixOf}
 use Rattle.cdf_unit_prefix.specs.Rules.{headOf}
 use Rattle.cdf_unit_table.specs.Ids.{actionAllowed}
 use Rattle.cdf_unit_table.specs.States.{admits}
-use Rattle.cdf_unit_data.specs.Data.{ownData}
+use Rattle.cdf_unit_data.specs.Data.{NameBytes, nameBytes, ownDataBy}
 use Rattle.cdf_unit_data.specs.declared.Own.{Own}
 use Rattle.cdf_unit_data.specs.declared.Own.the-variants.{Taken, Broken}
 use Rattle.cdf_unit_prefix.specs.declared.Header.{Header}
@@ -23,10 +23,10 @@ unfoldable pub dataBody : Own → Body
 dataBody (Taken k) = Whole k
 dataBody (Broken k) = Data k
 
--- 8: the action is not allowed for this id. 9: the own data breaks its rule.
-unfoldable pub bodyOf : ℕ → ℕ → List ℕ → Body
-unfolding actionAllowed dataBody ownData
-bodyOf id action s = cond (not (actionAllowed id action)) Action (dataBody (ownData id s))
+-- 8: the action is not allowed for this id. 9: the own data breaks its rule, by the bytes that may stand in a name.
+unfoldable pub bodyBy : NameBytes → ℕ → ℕ → List ℕ → Body
+unfolding actionAllowed dataBody ownDataBy
+bodyBy w id action s = cond (not (actionAllowed id action)) Action (dataBody (ownDataBy w id s))
 
 -- 9 alone is told at the byte that offends (02, b); every other rule at the unit's start.
 unfoldable pub foundBy : Layout → ℕ → ℕ → ℕ → ℕ → Body → Judged
@@ -35,18 +35,25 @@ foundBy l id action len next (Data k) = Fault 9 (prefixOf l + k)
 foundBy l id action len next (Whole k) = Found id action (prefixOf l + k) len next
 
 -- 7: not admitted here, between the two. `admitted` tells the state of the enclosing unit after a child of an id, or 0.
-unfoldable pub judgeHead : Layout → (ℕ → ℕ) → List ℕ → Header → Judged
-unfolding foundBy bodyOf
-judgeHead l admitted s (Stop n) = Fault n 0
-judgeHead l admitted s (Prefix id action len) =
+unfoldable pub judgeHead : NameBytes → Layout → (ℕ → ℕ) → List ℕ → Header → Judged
+unfolding foundBy bodyBy
+judgeHead w l admitted s (Stop n) = Fault n 0
+judgeHead w l admitted s (Prefix id action len) =
     cond (eqb (admitted id) 0) (Fault 7 0)
-    (foundBy l id action len (admitted id) (bodyOf id action (take (len - prefixOf l) (drop (prefixOf l) s))))
+    (foundBy l id action len (admitted id) (bodyBy w id action (take (len - prefixOf l) (drop (prefixOf l) s))))
 
-unfoldable pub judgeBy : Layout → Bool → (ℕ → ℕ) → List ℕ → Judged
+unfoldable pub judgeBy : NameBytes → Layout → Bool → (ℕ → ℕ) → List ℕ → Judged
 unfolding judgeHead headOf
-judgeBy l root admitted s = judgeHead l admitted s (headOf l root s)
+judgeBy w l root admitted s = judgeHead w l admitted s (headOf l root s)
 
 -- The root of a stream (`true`), or a unit nested in one that is in `state`.
-unfoldable pub judgeOf : Layout → Bool → ℕ → List ℕ → Judged
+unfoldable pub judgeIn : NameBytes → Layout → Bool → ℕ → List ℕ → Judged
 unfolding judgeBy admits
-judgeOf l root state s = judgeBy l root (admits root state) s
+judgeIn w l root state s = judgeBy w l root (admits root state) s
+
+-- With 01's name bytes.
+abbrev pub bodyOf : ℕ → ℕ → List ℕ → Body
+bodyOf = bodyBy nameBytes
+
+abbrev pub judgeOf : Layout → Bool → ℕ → List ℕ → Judged
+judgeOf = judgeIn nameBytes

@@ -11,7 +11,7 @@ use Rattle.cdf_unit_table.specs.States.{admits, complete}
 use Rattle.cdf_unit_judge.specs.Judge.{judgeOf}
 use Rattle.cdf_unit_list.specs.Units.{after, parentsThat, openAt, stateOf, Next, whole, broken, listed, unitAt, within}
 use Rattle.cdf_unit_list.specs.Units.{orElse, nextAt, next, goOn, listFrom, listBy}
-use Rattle.cdf_unit_list.specs.Stack.{Closing, incomplete, left, close, Step, done, refused, found, entered, withState, stepIn, step}
+use Rattle.cdf_unit_list.specs.Stack.{Closing, incomplete, left, close, Step, done, refused, found, entered, withState, stepIn, step, stepBy, stepInBy}
 use Rattle.cdf_unit_list.specs.Steps.{stepsFrom, steps}
 use Rattle.cdf_unit_list.specs.declared.Unit.{Unit}
 use Rattle.cdf_unit_list.specs.declared.Open.{Open}
@@ -43,7 +43,7 @@ unit-agrees us pos around (Found id action own len state) enters =
 module _ (l : Layout) (s : List ℕ) where
   pub within-agrees : (us : List Unit) (pos : ℕ) → Before pos us → (ws : List Unit) → openAt pos us ≡ ws → Nested pos (suc pos) ws →
       Bounded (map (openOf us) ws) → Agrees us (within l s us pos ws) (stepIn l s pos (left (map (openOf us) ws)))
-  unfolding within stepIn withState admits
+  unfolding within stepInBy withState admits
   within-agrees us pos before [] e h heights = both-end
   within-agrees us pos before (o ∷ ws) e h heights =
       let rest = take (o .end - pos) (drop pos s) in
@@ -82,7 +82,7 @@ module _ (l : Layout) (s : List ℕ) where
       go false b c = h
 
   pub next-agrees : (us : List Unit) (os : List Open) (pos : ℕ) → Follow us os pos → Agrees us (nextAt l s us pos) (step l s os pos)
-  unfolding nextAt orElse step stepIn
+  unfolding nextAt orElse stepBy stepInBy
   next-agrees us os pos f =
       rw (f .stack) (go (closes us pos us (f .nested)) (rw (f .stack) at (close-bounded os pos (f .bounded))))
     where

@@ -10,7 +10,7 @@ use Rattle.cdf_unit_prefix.specs.Layout.{Layout, prefixOf}
 use Rattle.cdf_unit_judge.specs.Judge.{judgeOf}
 use Rattle.cdf_unit_list.specs.Units.{listBy}
 use Rattle.cdf_unit_list.specs.Stack.{Closing, incomplete, left, close, Step, done, refused, found, entered, withState}
-use Rattle.cdf_unit_list.specs.Stack.{stepIn, step}
+use Rattle.cdf_unit_list.specs.Stack.{stepIn, stepInBy, step, stepBy}
 use Rattle.cdf_unit_list.specs.Steps.{stepsFrom, steps}
 use Rattle.cdf_unit_list.specs.declared.Unit.{Unit}
 use Rattle.cdf_unit_list.specs.declared.Open.{Open}
@@ -40,7 +40,7 @@ module _ (l : Layout) (s : List ℕ) where
           (omega arith, omega arith, refl)
 
   pub step-further : (pos : ℕ) (os : List Open) → Further pos (step l s os pos)
-  unfolding step stepIn
+  unfolding stepBy stepInBy
   step-further pos os = go (close os pos)
     where
       go : (c : Closing) → Further pos (stepIn l s pos c)

@@ -17,7 +17,8 @@ use Rattle.cdf_unit_judge.specs.declared.Judged.the-variants.{Fault, Found}
 use Rattle.cdf_unit_judge.proofs.Placed.{placed}
 use Rattle.cdf_unit_list.specs.Units.{openAt, inside, parentsThat, stateOf, Next}
 use Rattle.cdf_unit_list.specs.Ranks.{rankIn}
-use Rattle.cdf_unit_list.specs.Stack.{Closing, incomplete, left, close, Step, done, refused, found, opened, entered, withState, stepIn, step}
+use Rattle.cdf_unit_list.specs.Stack.{Closing, incomplete, left, close, Step, done, refused, found, opened, entered, withState}
+use Rattle.cdf_unit_list.specs.Stack.{stepIn, step, stepBy, stepInBy}
 use Rattle.cdf_unit_list.specs.declared.Unit.{Unit}
 use Rattle.cdf_unit_list.specs.declared.Open.{Open}
 use Rattle.cdf_unit_list.proofs.Nested.{Nested, narrow}
@@ -104,7 +105,7 @@ module _ (l : Layout) (s : List ℕ) where
   -- A unit in the innermost of those that closing leaves.
   pub within-counts : (us : List Unit) (pos : ℕ) → Before pos us → (ws : List Unit) → openAt pos us ≡ ws → Nested pos (suc pos) ws →
       (ks : List ℕ) (r : ℕ) → Counted us (map (openOf us) ws) ks r → CountsOn us ks r (stepIn l s pos (left (map (openOf us) ws)))
-  unfolding stepIn withState entered
+  unfolding stepInBy withState entered
   within-counts us pos before [] e h ks r c = record {}
   within-counts us pos before (o ∷ ws) e h ks r c = go (judgeOf l false (stateOf us o) (take (o .end - pos) (drop pos s)))
     where
@@ -119,7 +120,7 @@ module _ (l : Layout) (s : List ℕ) where
   -- A step from units that follow the list, if those that closing leaves have these ranks.
   pub next-counts : (us : List Unit) (os : List Open) (pos : ℕ) → Follow us os pos → (ks : List ℕ) (r : ℕ) →
       CountedLeft us ks r (close os pos) → CountsOn us ks r (step l s os pos)
-  unfolding step stepIn
+  unfolding stepBy stepInBy
   next-counts us os pos f ks r c = rw (f .stack) (go (closes us pos us (f .nested)) (rw (f .stack) at c))
     where
       go : {n : Next} {x : Closing} → Closes us pos (openAt pos us) n x → CountedLeft us ks r x → CountsOn us ks r (stepIn l s pos x)

@@ -12,7 +12,7 @@ use Rattle.cdf_unit_table.specs.States.{opens, nothing, complete}
 use Rattle.cdf_unit_table.proofs.Bools.{clash}
 use Rattle.cdf_unit_judge.specs.Judge.{judgeOf}
 use Rattle.cdf_unit_list.specs.Units.{after, ended, listing}
-use Rattle.cdf_unit_list.specs.Stack.{incomplete, close, Step, refused, found, opened, entered, withState, stepIn, step}
+use Rattle.cdf_unit_list.specs.Stack.{incomplete, close, Step, refused, found, opened, entered, withState, stepIn, step, stepBy, stepInBy}
 use Rattle.cdf_unit_list.specs.Steps.{stepsFrom, steps}
 use Rattle.cdf_unit_list.specs.declared.Unit.{Unit}
 use Rattle.cdf_unit_list.specs.declared.Open.{Open}
@@ -28,12 +28,12 @@ module _ (l : Layout) (s : List ℕ) where
   pub step-inside : (o : Open) (os : List Open) (pos : ℕ) → pos < o .end →
       step l s (o ∷ os) pos
       ≡ entered pos (λ state. withState o state ∷ os) (judgeOf l false (o .state) (take (o .end - pos) (drop pos s)))
-  unfolding step stepIn close
+  unfolding stepBy stepInBy close
   step-inside o os pos h = rw (ne-eqb (o .end) pos (λ e. omega arith))
 
   pub step-closes : (o : Open) (os : List Open) (pos : ℕ) → o .end ≡ pos →
       step l s (o ∷ os) pos ≡ cond (complete (o .state)) (step l s os pos) (refused 10 (o .start))
-  unfolding step stepIn close
+  unfolding stepBy stepInBy close
   step-closes o os pos e = rw (eq-eqb (o .end) pos e) (go (complete (o .state)))
     where
       go : (b : Bool) →

@@ -8,7 +8,8 @@ use lib.ListN.{take, drop}
 use lib.Dec.{eqb}
 use Rattle.cdf_unit_prefix.specs.Layout.{Layout}
 use Rattle.cdf_unit_table.specs.States.{opens, nothing, complete}
-use Rattle.cdf_unit_judge.specs.Judge.{judgeOf}
+use Rattle.cdf_unit_data.specs.Data.{NameBytes, nameBytes}
+use Rattle.cdf_unit_judge.specs.Judge.{judgeIn}
 use Rattle.cdf_unit_list.specs.Units.{after}
 use Rattle.cdf_unit_list.specs.declared.Unit.{Unit}
 use Rattle.cdf_unit_list.specs.declared.Open.{Open}
@@ -48,13 +49,21 @@ entered pos around (Found id action k len state) =
 unfoldable pub withState : Open → ℕ → Open
 withState o state = record { state = state; start = o .start; end = o .end }
 
-unfoldable pub stepIn : Layout → List ℕ → ℕ → Closing → Step
-unfolding entered withState judgeOf
-stepIn l s pos (incomplete at) = refused 10 at
-stepIn l s pos (left []) = done
-stepIn l s pos (left (o ∷ os)) =
-    entered pos (λ state. withState o state ∷ os) (judgeOf l false (o .state) (take (o .end - pos) (drop pos s)))
+-- By the bytes that may stand in a name.
+unfoldable pub stepInBy : NameBytes → Layout → List ℕ → ℕ → Closing → Step
+unfolding entered withState judgeIn
+stepInBy w l s pos (incomplete at) = refused 10 at
+stepInBy w l s pos (left []) = done
+stepInBy w l s pos (left (o ∷ os)) =
+    entered pos (λ state. withState o state ∷ os) (judgeIn w l false (o .state) (take (o .end - pos) (drop pos s)))
 
-unfoldable pub step : Layout → List ℕ → List Open → ℕ → Step
-unfolding stepIn close
-step l s os pos = stepIn l s pos (close os pos)
+unfoldable pub stepBy : NameBytes → Layout → List ℕ → List Open → ℕ → Step
+unfolding stepInBy close
+stepBy w l s os pos = stepInBy w l s pos (close os pos)
+
+-- With 01's.
+abbrev pub stepIn : Layout → List ℕ → ℕ → Closing → Step
+stepIn = stepInBy nameBytes
+
+abbrev pub step : Layout → List ℕ → List Open → ℕ → Step
+step = stepBy nameBytes

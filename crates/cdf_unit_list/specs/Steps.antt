@@ -6,11 +6,11 @@ use Rattle.cdf_unit_prefix.specs.Layout.{Layout}
 use Rattle.cdf_unit_list.specs.Units.{Listing, unfinished, ended, fault}
 use Rattle.cdf_unit_list.specs.declared.Unit.{Unit}
 use Rattle.cdf_unit_judge.specs.declared.Judged.{Judged}
-use Rattle.cdf_unit_list.specs.Stack.{Step, entered, step, done, refused, found}
+use Rattle.cdf_unit_list.specs.Stack.{Step, entered, step, done, refused, found, stepBy}
 
 -- From a step and the units so far, the last one first.
 unfoldable pub stepsFrom : ℕ → Layout → List ℕ → Step → List Unit → Listing
-unfolding step
+unfolding stepBy
 stepsFrom zero l s x us = record { units = reverse us; end = unfinished }
 stepsFrom (suc f) l s done us = record { units = reverse us; end = ended }
 stepsFrom (suc f) l s (refused n at) us = record { units = reverse us; end = fault n at }

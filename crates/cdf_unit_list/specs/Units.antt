@@ -7,7 +7,7 @@ use lib.ListN.{length, take, drop}
 use lib.Dec.{ltb, eqb}
 use Rattle.cdf_unit_prefix.specs.Layout.{Layout}
 use Rattle.cdf_unit_table.specs.States.{opens, nothing, admit, complete}
-use Rattle.cdf_unit_judge.specs.Judge.{judgeOf}
+use Rattle.cdf_unit_judge.specs.Judge.{judgeOf, judgeIn}
 use Rattle.cdf_unit_list.specs.declared.Unit.{Unit}
 use Rattle.cdf_unit_judge.specs.declared.Judged.{Judged}
 use Rattle.cdf_unit_judge.specs.declared.Judged.the-variants.{Fault, Found}
@@ -73,7 +73,7 @@ closed us (u ∷ cs) = cond (complete (stateOf us u)) (closed us cs) (broken 10 
 
 -- No open unit: nothing is missing from the list. Otherwise rules 3 to 9 are asked of what the innermost open one has left.
 unfoldable pub within : Layout → List ℕ → List Unit → ℕ → List Unit → Next
-unfolding unitAt judgeOf stateOf
+unfolding unitAt judgeIn stateOf
 within l s us pos [] = whole
 within l s us pos (o ∷ os) = unitAt pos (judgeOf l false (stateOf us o) (take (o .end - pos) (drop pos s)))
 
@@ -118,12 +118,12 @@ listBy l s first = listFrom (suc (length s)) l s first []
 
 -- The unit list of a stream: position 0 gets the root's rules.
 unfoldable pub listing : Layout → List ℕ → Listing
-unfolding listBy judgeOf
+unfolding listBy judgeIn
 listing l s = listBy l s (judgeOf l true 0 s)
 
 -- The same one level down: of the unit at the front of s, which is what the enclosing unit, in `state`, has left.
 unfoldable pub listingIn : Layout → ℕ → List ℕ → Listing
-unfolding listBy judgeOf
+unfolding listBy judgeIn
 listingIn l state s = listBy l s (judgeOf l false state s)
 
 -- How deep units stand: one deeper than the units that are open where they start. `us` are the units before, the last one

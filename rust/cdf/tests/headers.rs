@@ -130,7 +130,8 @@ fn declarations_are_the_headers() {
 #[test]
 fn own_data_is_the_crates() {
     let source = text("crates/cdf_unit_data/src/lib.rt");
-    let arms = source.split("pub fn own_data").nth(1).unwrap();
+    // With a name and without: what `own_data` says is `own_data_by` of the format's row.
+    let arms = source.split("fn unnamed").nth(1).unwrap().split("pub fn own_data(").next().unwrap();
     let mut forms = BTreeMap::new();
     for line in arms.lines().filter(|line| line.contains("=>") && !line.contains("_ =>")) {
         let (ids, form) = line.split_once("=>").unwrap();

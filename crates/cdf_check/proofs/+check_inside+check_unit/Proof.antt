@@ -11,13 +11,14 @@ use borrow.Fn.PlainCycle.{Measures, is, falls, and}
 use lib.ListN.{length, drop, length-take, length-drop}
 use Rattle.cdf_unit_prefix.specs.Layout.{layoutOf}
 use Rattle.cdf_unit_prefix.specs.Rules.{headOf}
+use Rattle.cdf_unit_data.proofs.Standing.{row-is}
 use Rattle.cdf_unit_judge.specs.Judge.{bodyOf}
 use Rattle.cdf_unit_prefix.proofs.prefix.Reads as prefix-reads
 use Rattle.cdf_unit_prefix.proofs.head.Reads as head-reads
 use Rattle.cdf_unit_table.proofs.is_complete.Reads as is-complete-reads
 use Rattle.cdf_unit_table.proofs.first_state.Reads as first-state-reads
 use Rattle.cdf_unit_table.proofs.state_after.Reads as state-after-reads
-use Rattle.cdf_unit_judge.proofs.judge_body.Reads as judge-body-reads
+use Rattle.cdf_unit_judge.proofs.judge_body_by.Reads as judge-body-by-reads
 use Rattle.cdf_unit_table.proofs.Heights.{opens-lower}
 use Rattle.cdf_unit_table.proofs.Parts.{rest}
 use Rattle.cdf_unit_table.proofs.Rows.{opens-by}
@@ -33,24 +34,24 @@ use Rattle.cdf_check.proofs.+check_inside+check_unit.Lts-check_unit as 
 use Rattle.cdf_check.proofs.+check_inside+check_unit.{statement}
 use Rattle.cdf_check.proofs.+check_inside+check_unit.Tie.{close}
 
-abbrev μ-inside : Measures 1 inside-kinds.ps ℕ
-μ-inside κs a = a .1 .0 + a .1 .0
+abbrev μ-inside : Measures 2 inside-kinds.ps ℕ
+μ-inside κs a = a .1 .1 .0 + a .1 .1 .0
 
-abbrev μ-unit : Measures 1 unit-kinds.ps ℕ
-μ-unit κs a = a .1 .0 + a .1 .0 + 1
+abbrev μ-unit : Measures 2 unit-kinds.ps ℕ
+μ-unit κs a = a .1 .1 .0 + a .1 .1 .0 + 1
 
 abbrev Inv-loop : inside-lts.InvT-loop
-Inv-loop edition levels s first base body count at₀ state₀ n₀ at state n =
+Inv-loop row edition levels s first base body count at₀ state₀ n₀ at state n =
     Going (layoutOf edition) levels s first base body count at state n
 
 abbrev μ-loop : inside-lts.MeasureT-loop
-μ-loop edition levels s first base body count at₀ state₀ n₀ at state n = length s - at
+μ-loop row edition levels s first base body count at₀ state₀ n₀ at state n = length s - at
 
 -- t is the measure of the call in hand, here of the loop over what a unit holds. A place of the code is named by what was just
 -- learnt there: `turn` the loop's test, `seen` the prefix, `told` what it says, `passed` that the unit is admitted.
 module _ (t : ℕ) where
-  abbrev Loop-at : In 1 inside-kinds.ps
-  Loop-at = and 1 inside-kinds.ps (is 1 inside-kinds.ps μ-inside t) inside.Pre
+  abbrev Loop-at : In 2 inside-kinds.ps
+  Loop-at = and 2 inside-kinds.ps (is 2 inside-kinds.ps μ-inside t) inside.Pre
 
   abbrev Loop-calls : inside-lts.Claims
   Loop-calls = (
@@ -58,7 +59,7 @@ module _ (t : ℕ) where
     head-reads.Learnt,
     state-after-reads.Asked,
     state-after-reads.Learnt,
-    and 1 unit-kinds.ps (falls 1 unit-kinds.ps _<_ μ-unit t) unit.Pre,
+    and 2 unit-kinds.ps (falls 2 unit-kinds.ps _<_ μ-unit t) unit.Pre,
     unit.Post,
     is-complete-reads.Asked,
     is-complete-reads.Learnt,
@@ -87,7 +88,7 @@ module _ (t : ℕ) where
       (passed .before .state-after .ensures) (passed .if1 .left)
 
   loop-holds : inside-lts.Need-loop-holds Loop-calls Loop-at inside.Post Inv-loop μ-loop
-  loop-holds c = begun _ _ _ _ _ _ _ (c .before .pre .1 .0) (omega arith) (omega arith)
+  loop-holds c = begun _ _ _ _ _ _ _ (c .before .pre .1 .0 .0) (omega arith) (omega arith)
 
   returns : inside-lts.Need-returns Loop-calls Loop-at inside.Post Inv-loop μ-loop
   returns c =
@@ -116,7 +117,10 @@ module _ (t : ℕ) where
   check-unit-requires c κs =
       let told = c .before .before .before in
       let turn = told .before .before .before .before .before in
-      simp (length-take, length-drop) (omega (arith, placed (c .before), turn .before .loop .inv))
+      let start = turn .before .before .before in (
+        omega (arith, placed (c .before), turn .before .loop .inv),
+        (simp (length-take, length-drop) (omega (arith, placed (c .before), turn .before .loop .inv)), start .pre .1 .1),
+      )
 
   returns-3 : inside-lts.Need-returns-3 Loop-calls Loop-at inside.Post Inv-loop μ-loop
   returns-3 c =
@@ -157,34 +161,36 @@ module _ (t : ℕ) where
 
 -- The same of a unit: `prefixed` is the length of its prefix, `judged` its action and own data, `fresh` its first state.
 module _ (t : ℕ) where
-  abbrev Unit-at : In 1 unit-kinds.ps
-  Unit-at = and 1 unit-kinds.ps (is 1 unit-kinds.ps μ-unit t) unit.Pre
+  abbrev Unit-at : In 2 unit-kinds.ps
+  Unit-at = and 2 unit-kinds.ps (is 2 unit-kinds.ps μ-unit t) unit.Pre
 
   abbrev Unit-calls : unit-lts.Claims
   Unit-calls = (
     prefix-reads.Asked,
     prefix-reads.Learnt,
-    judge-body-reads.Asked,
-    judge-body-reads.Learnt,
+    judge-body-by-reads.Asked,
+    judge-body-by-reads.Learnt,
     first-state-reads.Asked,
     first-state-reads.Learnt,
-    and 1 inside-kinds.ps (falls 1 inside-kinds.ps _<_ μ-inside t) inside.Pre,
+    and 2 inside-kinds.ps (falls 2 inside-kinds.ps _<_ μ-inside t) inside.Pre,
     inside.Post,
   )
 
-  bodied : (judged : unit-lts.After-judge-body Unit-calls Unit-at unit.Post) →
+  bodied : (judged : unit-lts.After-judge-body-by Unit-calls Unit-at unit.Post) →
       let prefixed = judged .before .before in
       let start = prefixed .before .before in
-      judged .judge-body .result ≡ bodyOf (start .args .id) (start .args .action) (drop (prefixed .prefix .result) (start .args .s .now))
-  bodied judged = simp rest at (judged .judge-body .ensures)
+      judged .judge-body-by .result ≡ bodyOf (start .args .id) (start .args .action) (drop (prefixed .prefix .result) (start .args .s .now))
+  bodied judged =
+      let start = judged .before .before .before .before in
+      rw (row-is _ (start .pre .1 .1)) at (simp rest at (judged .judge-body-by .ensures))
 
-  sub-judge-body : unit-lts.Need-sub-judge-body Unit-calls Unit-at unit.Post
+  sub-judge-body : unit-lts.Need-sub-judge-body-by Unit-calls Unit-at unit.Post
   sub-judge-body c = omega (arith, c .prefix .ensures .0)
 
-  part-judge-body-start : unit-lts.Need-part-judge-body-start Unit-calls Unit-at unit.Post
+  part-judge-body-start : unit-lts.Need-part-judge-body-by-start Unit-calls Unit-at unit.Post
   part-judge-body-start c = omega (arith, c .prefix .ensures .0)
 
-  part-judge-body-end : unit-lts.Need-part-judge-body-end Unit-calls Unit-at unit.Post
+  part-judge-body-end : unit-lts.Need-part-judge-body-by-end Unit-calls Unit-at unit.Post
   part-judge-body-end c = omega (arith, c .prefix .ensures .0)
 
   add-byte : unit-lts.Need-add-byte Unit-calls Unit-at unit.Post
@@ -193,7 +199,7 @@ module _ (t : ℕ) where
   add-byte-2 : unit-lts.Need-add-byte-2 Unit-calls Unit-at unit.Post
   add-byte-2 c =
       let judged = c .before .before .before in
-      let few = fault-fits _ _ _ _ (sym (bodied judged) ∙ c .before .k .given .1) in
+      let few = fault-fits _ _ _ _ _ (sym (bodied judged) ∙ c .before .k .given .1) in
       omega (arith, judged .before .before .prefix .ensures .0, simp length-drop at few)
 
   returns-leaf : unit-lts.Need-returns Unit-calls Unit-at unit.Post
@@ -202,24 +208,25 @@ module _ (t : ℕ) where
       let judged = told .before .before .before in
       let prefixed = judged .before .before in
       leaf _ _ _ _ _ _ _ _ (prefixed .prefix .ensures .0) _ (bodied judged) (told .before .k2 .given .1) _
-      (c .before .first-state .ensures) (omega (arith, prefixed .before .before .pre .1)) (c .if1 .taken)
+      (c .before .first-state .ensures) (omega (arith, prefixed .before .before .pre .1 .0)) (c .if1 .taken)
 
   add-check-inside : unit-lts.Need-add-check-inside Unit-calls Unit-at unit.Post
   add-check-inside c =
       let told = c .before .before in
       let judged = told .before .before .before in
-      let few = body-fits _ _ _ _ (sym (bodied judged) ∙ told .before .k2 .given .1) in
+      let few = body-fits _ _ _ _ _ (sym (bodied judged) ∙ told .before .k2 .given .1) in
       omega (arith, judged .before .before .prefix .ensures .0, simp length-drop at few)
 
   check-inside-requires : unit-lts.Need-check-inside-requires Unit-calls Unit-at unit.Post
   check-inside-requires c κs =
       let told = c .before .before in
       let judged = told .before .before .before in
-      let id = judged .before .before .before .before .args .id in
-      let few = body-fits _ _ _ _ (sym (bodied judged) ∙ told .before .k2 .given .1) in
+      let start = judged .before .before .before .before in
+      let id = start .args .id in
+      let few = body-fits _ _ _ _ _ (sym (bodied judged) ∙ told .before .k2 .given .1) in
       let begins = c .before .first-state .ensures in
       let low = opens-lower id (opens-by id _ begins (c .if1 .left)) .same in
-      rw begins (omega (arith, low, judged .before .before .prefix .ensures .0, simp length-drop at few))
+      (omega arith, (rw begins (omega (arith, low, judged .before .before .prefix .ensures .0, simp length-drop at few)), start .pre .1 .1))
 
   returns-action : unit-lts.Need-returns-2 Unit-calls Unit-at unit.Post
   returns-action c =

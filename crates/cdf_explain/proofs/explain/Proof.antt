@@ -1,15 +1,16 @@
 -- The loop ends, since each unit comes further. `done` is where the number is known not to be 0.
 use Prim.Native.Nat.{_≤_}
-use mathlib.Core.Path.{_≡_, ap, sym, _∙_}
+use mathlib.Core.Path.{_≡_, refl, ap, sym, _∙_}
 use mathlib.Core.List.{List, [], _∷_}
 use borrow.Author.Needs.{needs}
 use lib.ListN.{length}
 use Rattle.cdf_unit_prefix.specs.Layout.{layoutOf}
 use Rattle.cdf_unit_prefix.specs.declared.Edition.the-variants.{First}
+use Rattle.cdf_unit_data.specs.Standing.{nameRow}
 use Rattle.cdf_unit_list.specs.declared.Unit.{Unit}
 use Rattle.cdf_reader_spec.specs.Calls.{nextOf}
 use Rattle.cdf_reader_cursor.specs.Outcomes.{cursorPlace, outcomeReply}
-use Rattle.cdf_reader_advance.proofs.Steady.{advances}
+use Rattle.cdf_reader_advance.proofs.Steady.{advances-by}
 use Rattle.cdf_reader_runs.proofs.Looping.{Going, begun, Turn, turned, over}
 use Rattle.cdf_reader_runs.proofs.Further.{first-later, next-later, ahead, less}
 use Rattle.cdf_explain.specs.Numbers.{explainedBy}
@@ -19,11 +20,13 @@ use Rattle.cdf_explain.proofs.explain.Statement.{statement}
 use Rattle.cdf_explain.proofs.explain.Tie as tie
 
 abbrev Inv-loop : tie.InvT-loop
-Inv-loop s a₀ a =
-    ((before : List Unit) × Going (layoutOf First) s before (outcomeReply a)) × (a .number ≡ 0 → a .cursor .position ≤ length s)
+Inv-loop s row a₀ a =
+    ((before : List Unit) × Going (layoutOf First) s before (outcomeReply a))
+    × (a .number ≡ 0 → a .cursor .position ≤ length s)
+    × (row ≡ nameRow)
 
 abbrev μ-loop : tie.MeasureT-loop
-μ-loop s a₀ a = ahead (layoutOf First) s (a .number) (a .cursor .position)
+μ-loop s row a₀ a = ahead (layoutOf First) s (a .number) (a .cursor .position)
 
 -- What is told where the loop ends.
 end-of : (turn : tie.At-loop Inv-loop μ-loop) → (turn .loop .a .number ≡ 0 → ⊥) →
@@ -37,31 +40,33 @@ first-as-requires : tie.Need-first-as-requires Inv-loop μ-loop
 first-as-requires c κs = search needs
 
 loop-holds : tie.Need-loop-holds Inv-loop μ-loop
+unfolding nameRow
 loop-holds c =
     let s = c .before .before .args .s .now in (
       ([], begun (layoutOf First) s (outcomeReply (c .first-as .result)) (c .first-as .ensures .0)),
-      λ z. (rw (← c .first-as .ensures .0) at (first-later (layoutOf First) s)) z .1,
+      (λ z. (rw (← c .first-as .ensures .0) at (first-later (layoutOf First) s)) z .1),
+      refl,
     )
 
 advance-requires : tie.Need-advance-requires Inv-loop μ-loop
 advance-requires c κs = search needs
 
--- A unit was handed out; so the place fits, and the step is NEXT.
+-- A unit was handed out; so the place fits, and the step by 01's row is NEXT.
 here : (turn : tie.At-loop Inv-loop μ-loop) → turn .loop .a .number ≡ 0 →
     Turn (layoutOf First) (turn .before .before .before .args .s .now) (turn .loop .inv .0 .0) (outcomeReply (turn .loop .a))
 here turn z =
     turned (layoutOf First) (turn .before .before .before .args .s .now) (turn .loop .inv .0 .0) (outcomeReply (turn .loop .a)) (turn .loop .inv .0 .1) z
 
 next : (c : tie.After-advance Inv-loop μ-loop) →
-    let turn = c .before .before .before .before in
+    let turn = c .before .before .before .before .before in
     outcomeReply (c .advance .result) ≡ nextOf (layoutOf First) (turn .before .before .before .args .s .now) (cursorPlace (turn .loop .a .cursor))
 next c =
-    let more = c .before .before in
-    c .advance .ensures .0 ∙ advances _ _ _ (here (more .before .before) (more .if1 .taken) .fit)
+    let more = c .before .before .before in
+    c .advance .ensures .0 ∙ advances-by _ (more .before .before .loop .inv .2) _ _ _ (here (more .before .before) (more .if1 .taken) .fit)
 
 loop-less : tie.Need-loop-less Inv-loop μ-loop
 loop-less c =
-    let more = c .before .before in
+    let more = c .before .before .before in
     let turn = more .before .before in
     let s = turn .before .before .before .args .s .now in
     let p = turn .loop .a .cursor in
@@ -70,13 +75,14 @@ loop-less c =
 
 loop-again : tie.Need-loop-again Inv-loop μ-loop
 loop-again c =
-    let more = c .before .before in
+    let more = c .before .before .before in
     let turn = more .before .before in
     let s = turn .before .before .before .args .s .now in
     let a = turn .loop .a in
     let before = turn .loop .inv .0 .0 in (
       (a .handed .unit ∷ before, rw (next c) (here turn (more .if1 .taken) .next)),
-      λ z. (rw (← next c) at (next-later (layoutOf First) s (cursorPlace (a .cursor)))) z .1,
+      (λ z. (rw (← next c) at (next-later (layoutOf First) s (cursorPlace (a .cursor)))) z .1),
+      turn .loop .inv .2,
     )
 
 returns : tie.Need-returns Inv-loop μ-loop

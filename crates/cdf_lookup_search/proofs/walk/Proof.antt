@@ -1,11 +1,12 @@
 -- The units are folded as they come, and what was found lies in the bytes. `turn` is the head of the loop, `step` where a unit was folded in.
 use Prim.Native.Nat.{ℕ, _≤_}
-use mathlib.Core.Path.{_≡_, _∙_}
+use mathlib.Core.Path.{_≡_, refl, _∙_}
 use mathlib.Core.List.{List}
 use borrow.Author.Needs.{needs}
 use lib.ListN.{length}
 use Rattle.cdf_unit_prefix.specs.Layout.{Layout, layoutOf}
 use Rattle.cdf_unit_prefix.specs.declared.Edition.the-variants.{First}
+use Rattle.cdf_unit_data.specs.Standing.{nameRow}
 use Rattle.cdf_reader_spec.specs.Calls.{nextOf}
 use Rattle.cdf_reader.specs.View.{view, replyOf}
 use Rattle.cdf_reader.proofs.Proved.{proved}
@@ -24,13 +25,14 @@ abbrev l : Layout
 l = layoutOf First
 
 abbrev Inv-loop : tie.InvT-loop
-Inv-loop s template kind key field a₀ group state₀ a state =
+Inv-loop s template kind key field row a₀ group state₀ a state =
     Going (seek l s (query template kind key field)) l s Seeking (replyOf a) state
     × (a .number ≡ 0 → a .place .position ≤ length s)
     × Placed (length s) (outcomeOf state)
+    × (row ≡ nameRow)
 
 abbrev μ-loop : tie.MeasureT-loop
-μ-loop s template kind key field a₀ group state₀ a state = ahead l s (a .number) (a .place .position)
+μ-loop s template kind key field row a₀ group state₀ a state = ahead l s (a .number) (a .place .position)
 
 -- Where the start has been made, the bytes and what is asked for, at the head of the loop.
 abbrev begin : tie.At-loop Inv-loop μ-loop → tie.After-first Inv-loop μ-loop
@@ -71,12 +73,14 @@ first-requires : tie.Need-first-requires Inv-loop μ-loop
 first-requires c κs = search needs
 
 loop-holds : tie.Need-loop-holds Inv-loop μ-loop
+unfolding nameRow
 loop-holds c =
     let start = c .before .before in
     let s = start .before .before .before .before .before .args .s .now in (
       begun _ l s Seeking (replyOf (start .first .result)) (start .first .ensures .0),
       (λ z. (rw (← start .first .ensures .0) at (first-later l s)) z .1),
       nowhere (length s),
+      refl,
     )
 
 advance-requires : tie.Need-advance-requires Inv-loop μ-loop
@@ -87,26 +91,29 @@ advance-requires c κs =
 advance-requires-2 : tie.Need-advance-requires-2 Inv-loop μ-loop
 advance-requires-2 c κs = search needs
 
--- The place fits, so a step from it is NEXT.
+-- The place fits, so a step from it by 01's row is NEXT.
 next : (c : tie.After-advance2 Inv-loop μ-loop) →
-    let turn = head (c .before .before) in
+    let turn = head (c .before .before .before) in
     replyOf (c .advance2 .result) ≡ nextOf l (bytes turn) (view (turn .loop .a .place))
-next c = let step = c .before .before in c .advance2 .ensures .0 ∙ proved .advances _ _ _ (in-hand (head step) (taken step) .fit)
+next c =
+    let step = c .before .before .before in
+    c .advance2 .ensures .0 ∙ proved .advances _ (head step .loop .inv .3) _ _ _ (in-hand (head step) (taken step) .fit)
 
 loop-less : tie.Need-loop-less Inv-loop μ-loop
 loop-less c =
-    let step = c .before .before in
+    let step = c .before .before .before in
     let turn = head step in
     less l (bytes turn) _ _ (replyOf (c .advance2 .result)) (taken step) (turn .loop .inv .1 (taken step))
     (rw (← next c) at (next-later l (bytes turn) (view (turn .loop .a .place))))
 
 loop-again : tie.Need-loop-again Inv-loop μ-loop
 loop-again c =
-    let step = c .before .before in
+    let step = c .before .before .before in
     let turn = head step in (
       rw (next c) (on step),
       (λ z. (rw (← next c) at (next-later l (bytes turn) (view (turn .loop .a .place)))) z .1),
       placed step,
+      turn .loop .inv .3,
     )
 
 outcome-requires : tie.Need-outcome-requires Inv-loop μ-loop

@@ -9,6 +9,7 @@ use borrow.Author.Needs.{needs}
 use borrow.Author.Tests.{not-true, not-false}
 use lib.ListN.{length}
 use Rattle.cdf_unit_prefix.specs.Layout.{layoutOf}
+use Rattle.cdf_unit_data.specs.Standing.{rowBytes}
 use Rattle.cdf_unit_judge.specs.declared.Judged.the-variants.{Fault, Found}
 use Rattle.cdf_reader_cursor.specs.Outcomes.{cursorPlace, outcomeReply}
 use Rattle.cdf_reader_cursor.specs.Entering.{entering}
@@ -36,23 +37,26 @@ part inside =
     let some = apart .before .before in
     let shut = some .before .before in
     let a = shut .before .before .before .before .before .before .args in
-    let w = within (layoutOf (a .edition)) (a .s .now) (a .c) _ _ (shut .close .ensures) (some .if1 .left) (apart .if2 .left) (lies inside) in
+    let w = within (rowBytes (a .row .now)) (layoutOf (a .edition)) (a .s .now) (a .c) _ _ (shut .close .ensures)
+    (some .if1 .left) (apart .if2 .left) (lies inside) in
     (w .1, w .2)
 
 -- A fault's offset lies in the bytes, and so does the unit that was found: its bounds are numbers that a field can hold.
-fault-lies : (seen : tie.After-judge) {n k : ℕ} → seen .judge .result ≡ Fault n k →
+fault-lies : (seen : tie.After-judge-by) {n k : ℕ} → seen .judge-by .result ≡ Fault n k →
     let a = seen .before .before .before .before .before .before .before .before .before .before .before .before .before .before .args in
-    a .c .position + k ≤ length (a .s .now)
+    a .c .position + k < 18446744073709551616
 fault-lies seen e =
     let inside = seen .before .before in
     let apart = inside .before .before in
     let some = apart .before .before in
     let shut = some .before .before in
-    let a = shut .before .before .before .before .before .before .args in
-    fault-within (layoutOf (a .edition)) (a .s .now) (a .c) _ _ (shut .close .ensures) (some .if1 .left) (apart .if2 .left) (lies inside)
-    (sym (seen .judge .ensures) ∙ e)
+    let start = shut .before .before .before .before .before .before in
+    let a = start .args in
+    let h = fault-within (rowBytes (a .row .now)) (layoutOf (a .edition)) (a .s .now) (a .c) _ _ (shut .close .ensures) (some .if1 .left)
+    (apart .if2 .left) (lies inside) (sym (seen .judge-by .ensures) ∙ e) in
+    omega (arith, h, start .good .1 .1 .1 .0 .1)
 
-unit-lies : (seen : tie.After-judge) {id action own len state : ℕ} → seen .judge .result ≡ Found id action own len state →
+unit-lies : (seen : tie.After-judge-by) {id action own len state : ℕ} → seen .judge-by .result ≡ Found id action own len state →
     let a = seen .before .before .before .before .before .before .before .before .before .before .before .before .before .before .args in
     (own ≤ len) × (a .c .position + len < 18446744073709551616)
 unit-lies seen e =
@@ -62,9 +66,9 @@ unit-lies seen e =
     let shut = some .before .before in
     let start = shut .before .before .before .before .before .before in
     let a = start .args in
-    let w = unit-within (layoutOf (a .edition)) (a .s .now) (a .c) _ _ (shut .close .ensures) (some .if1 .left) (apart .if2 .left) (lies inside)
-    (sym (seen .judge .ensures) ∙ e) in
-    (w .0, omega (arith, w .1, start .good .1 .1 .0 .1))
+    let w = unit-within (rowBytes (a .row .now)) (layoutOf (a .edition)) (a .s .now) (a .c) _ _ (shut .close .ensures) (some .if1 .left)
+    (apart .if2 .left) (lies inside) (sym (seen .judge-by .ensures) ∙ e) in
+    (w .0, omega (arith, w .1, start .good .1 .1 .1 .0 .1))
 
 close-requires : tie.Need-close-requires
 close-requires c κs = search needs
@@ -75,7 +79,7 @@ refused-requires c κs = search needs
 returns : tie.Need-returns
 returns c =
     let shut = c .before .before .before in
-    refuses _ _ _ _ _ (c .refused .result) (c .refused .ensures) (at-end _ _ _ _ _ (shut .close .ensures) (c .before .if1 .taken))
+    refuses _ _ _ _ _ _ (c .refused .result) (c .refused .ensures) (at-end _ _ _ _ _ _ (shut .close .ensures) (c .before .if1 .taken))
 
 refused-requires-2 : tie.Need-refused-requires-2
 refused-requires-2 c κs = search needs
@@ -84,8 +88,8 @@ returns-2 : tie.Need-returns-2
 returns-2 c =
     let some = c .before .before .before in
     let shut = some .before .before in
-    refuses _ _ _ _ _ (c .refused2 .result) (c .refused2 .ensures)
-    (at-incomplete _ _ _ _ _ (shut .close .ensures) (some .if1 .left) (c .before .if2 .taken))
+    refuses _ _ _ _ _ _ (c .refused2 .result) (c .refused2 .ensures)
+    (at-incomplete _ _ _ _ _ _ (shut .close .ensures) (some .if1 .left) (c .before .if2 .taken))
 
 is-inside-requires : tie.Need-is-inside-requires
 is-inside-requires c κs = search needs
@@ -99,20 +103,20 @@ returns-3 c =
     let apart = asked .before in
     let some = apart .before .before in
     let shut = some .before .before in
-    refuses _ _ _ _ _ (c .refused3 .result) (c .refused3 .ensures)
-    (outside _ _ _ _ _ (shut .close .ensures) (some .if1 .left) (apart .if2 .left)
+    refuses _ _ _ _ _ _ (c .refused3 .result) (c .refused3 .ensures)
+    (outside _ _ _ _ _ _ (shut .close .ensures) (some .if1 .left) (apart .if2 .left)
     (sym (asked .is-inside .ensures) ∙ not-true (asked .is-inside .result) (c .before .if3 .taken)))
 
-sub-judge : tie.Need-sub-judge
+sub-judge : tie.Need-sub-judge-by
 sub-judge c = omega (arith, part c)
 
-part-judge-start : tie.Need-part-judge-start
+part-judge-start : tie.Need-part-judge-by-start
 part-judge-start c = omega (arith, part c)
 
-part-judge-end : tie.Need-part-judge-end
+part-judge-end : tie.Need-part-judge-by-end
 part-judge-end c = omega (arith, part c)
 
-judge-requires : tie.Need-judge-requires
+judge-requires : tie.Need-judge-by-requires
 judge-requires c κs = search needs
 
 enum-known-number : tie.Need-enum-known-number
@@ -138,7 +142,7 @@ before : (ranked : tie.After-rank-before) →
 before ranked =
     let shut = ranked .before .before .before .before .before .before .before .before .before .before .before .before in
     let a = shut .before .before .before .before .before .before .args in
-    ranked .rank-before .ensures (leaves (layoutOf (a .edition)) (a .s .now) (a .c) _ _ (shut .close .ensures))
+    ranked .rank-before .ensures (leaves (rowBytes (a .row .now)) (layoutOf (a .edition)) (a .s .now) (a .c) _ _ (shut .close .ensures))
 
 has-room-requires : tie.Need-has-room-requires
 has-room-requires c κs = search needs
@@ -155,9 +159,9 @@ returns-4 c =
     let apart = inside .before .before in
     let some = apart .before .before in
     let shut = some .before .before in
-    refuses _ _ _ _ _ (c .refused5 .result) (c .refused5 .ensures)
-    (no-room _ _ _ _ _ (shut .close .ensures) (some .if1 .left) (apart .if2 .left) (lies inside)
-    (sym (seen .judge .ensures) ∙ ranked .before .before .id .given .1) _ (before ranked)
+    refuses _ _ _ _ _ _ (c .refused5 .result) (c .refused5 .ensures)
+    (no-room _ _ _ _ _ _ (shut .close .ensures) (some .if1 .left) (apart .if2 .left) (lies inside)
+    (sym (seen .judge-by .ensures) ∙ ranked .before .before .id .given .1) _ (before ranked)
     (sym (asked .has-room .ensures) ∙ not-true (asked .has-room .result) (c .before .if4 .taken)))
 
 add-own-end : tie.Need-add-own-end
@@ -185,11 +189,11 @@ fitted roomy =
     let some = apart .before .before in
     let shut = some .before .before in
     let start = shut .before .before .before .before .before .before in
-    let j = sym (seen .judge .ensures) ∙ ranked .before .before .id .given .1 in
+    let j = sym (seen .judge-by .ensures) ∙ ranked .before .before .id .given .1 in
     let room = sym (asked .has-room .ensures) ∙ not-false (asked .has-room .result) (roomy .if4 .left) in (
-      following _ _ _ _ _ (shut .close .ensures) (some .if1 .left) (apart .if2 .left) (lies inside) j _ (before ranked) room
-          (omega (arith, start .good .1 .1 .0 .1)),
-      slots _ _ _ _ _ (shut .close .ensures) (some .if1 .left) (apart .if2 .left) (lies inside) j _ (before ranked) room .1,
+      following _ _ _ _ _ _ (shut .close .ensures) (some .if1 .left) (apart .if2 .left) (lies inside) j _ (before ranked) room
+          (omega (arith, start .good .1 .1 .1 .0 .1)),
+      slots _ _ _ _ _ _ (shut .close .ensures) (some .if1 .left) (apart .if2 .left) (lies inside) j _ (before ranked) room .1,
     )
 
 add-depth : tie.Need-add-depth
@@ -208,9 +212,9 @@ returns-5 c =
     let apart = inside .before .before in
     let some = apart .before .before in
     let shut = some .before .before in
-    refuses _ _ _ _ _ (c .refused4 .result) (c .refused4 .ensures)
-    (inside-fault _ _ _ _ _ (shut .close .ensures) (some .if1 .left) (apart .if2 .left) (lies inside)
-    (sym (seen .judge .ensures) ∙ c .before .before .number .given .1))
+    refuses _ _ _ _ _ _ (c .refused4 .result) (c .refused4 .ensures)
+    (inside-fault _ _ _ _ _ _ (shut .close .ensures) (some .if1 .left) (apart .if2 .left) (lies inside)
+    (sym (seen .judge-by .ensures) ∙ c .before .before .number .given .1))
 
 returns-6 : tie.Need-returns-6
 unfolding entering
@@ -223,12 +227,12 @@ returns-6 c =
     let apart = inside .before .before in
     let some = apart .before .before in
     let shut = some .before .before in
-    let j = sym (seen .judge .ensures) ∙ ranked .before .before .id .given .1 in
+    let j = sym (seen .judge-by .ensures) ∙ ranked .before .before .id .given .1 in
     let room = sym (asked .has-room .ensures) ∙ not-false (asked .has-room .result) (roomy .if4 .left) in
     let count = shut .close .result .count in
     let deep : count + 1 ≡ suc count = omega arith in (
       ap outcomeReply (c .enter .ensures)
-          ∙ enters-found _ _ _ _ _ (shut .close .ensures) (some .if1 .left) (apart .if2 .left) (lies inside) j _ (before ranked)
+          ∙ enters-found _ _ _ _ _ _ (shut .close .ensures) (some .if1 .left) (apart .if2 .left) (lies inside) j _ (before ranked)
           room _ _ deep (c .before .next-rank .ensures (fitted roomy .0)),
       λ some. absurd (some (ap (λ (r : Outcome). r .number) (c .enter .ensures))),
     )

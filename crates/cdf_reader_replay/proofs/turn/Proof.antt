@@ -21,7 +21,7 @@ fit : (c : tie.Else1) → let a = c .before .before .before .args in ready (a .c
 fit c =
     let start = c .before .before .before in
     let a = start .args in
-    may-go (a .s .now) (a .c) (start .pre) (a .call) (may c)
+    may-go (a .s .now) (a .c) (start .pre .0) (a .call) (may c)
 
 has-use-requires : tie.Need-has-use-requires
 has-use-requires c κs = search needs
@@ -34,7 +34,7 @@ returns c =
     let used = c .before .before in
     let start = used .before .before in
     let a = start .args in
-    goes-on (a .s .now) (a .c) (start .pre) (a .call) (c .refused .result)
+    goes-on (a .s .now) (a .c) (start .pre .0) (a .call) (c .refused .result)
     (useless (a .c) (layoutOf First) (a .s .now) (a .call)
     (sym (used .has-use .ensures) ∙ not-true (used .has-use .result) (c .before .if1 .taken)) (c .refused .result) (c .refused .ensures))
 
@@ -77,7 +77,7 @@ returns-2 c =
     let go = c .before .before .before in
     let start = go .before .before .before in
     let a = start .args in
-    goes-on (a .s .now) (a .c) (start .pre) (a .call) _
+    goes-on (a .s .now) (a .c) (start .pre .0) (a .call) _
     (starts (a .c) (layoutOf First) (a .s .now) (a .call) (may go) (fit go) (c .before .enum-told .given .1) (c .first-as .result)
     (c .first-as .ensures .0) (c .first-as .ensures .1))
 
@@ -86,16 +86,16 @@ returns-3 c =
     let go = c .before .before .before in
     let start = go .before .before .before in
     let a = start .args in
-    goes-on (a .s .now) (a .c) (start .pre) (a .call) _
+    goes-on (a .s .now) (a .c) (start .pre .0) (a .call) _
     (steps (a .c) (layoutOf First) (a .s .now) (a .call) (may go) (fit go) (c .before .enum-told2 .given .1) (c .advance .result)
-    (c .advance .ensures .0) (c .advance .ensures .1))
+    (rw (start .pre .1) at (c .advance .ensures .0)) (c .advance .ensures .1))
 
 returns-4 : tie.Need-returns-4
 returns-4 c =
     let go = c .before .before .before in
     let start = go .before .before .before in
     let a = start .args in
-    goes-on (a .s .now) (a .c) (start .pre) (a .call) _
+    goes-on (a .s .now) (a .c) (start .pre .0) (a .call) _
     (skips (a .c) (layoutOf First) (a .s .now) (a .call) (may go) (fit go) (c .before .enum-told3 .given .1) (c .pass .result) (c .pass .ensures))
 
 returns-5 : tie.Need-returns-5
@@ -103,7 +103,7 @@ returns-5 c =
     let go = c .before .before .before in
     let start = go .before .before .before in
     let a = start .args in
-    goes-on (a .s .now) (a .c) (start .pre) (a .call) _
+    goes-on (a .s .now) (a .c) (start .pre .0) (a .call) _
     (takes (a .c) (layoutOf First) (a .s .now) (a .call) (may go) (fit go) (c .before .enum-told4 .given .1) (c .pass2 .result) (c .pass2 .ensures))
 
 returns-6 : tie.Need-returns-6
@@ -111,7 +111,7 @@ returns-6 c =
     let go = c .before .before .before .before in
     let start = go .before .before .before in
     let a = start .args in
-    goes-on (a .s .now) (a .c) (start .pre) (a .call) _
+    goes-on (a .s .now) (a .c) (start .pre .0) (a .call) _
     (again (a .c) (layoutOf First) (a .s .now) (a .call) (may go) (fit go) (c .before .before .enum-told5 .given .1) _ (c .last-depth .ensures))
 
 pub turn-spec : {M : Type 1} → statement M

@@ -5,6 +5,7 @@ use borrow.Author.Needs.{needs}
 use borrow.Author.Tests.{not-true, not-false}
 use lib.ListN.{length}
 use Rattle.cdf_unit_prefix.specs.Layout.{layoutOf}
+use Rattle.cdf_unit_data.specs.Standing.{nameRow}
 use Rattle.cdf_reader_spec.specs.Calls.{isStart}
 use Rattle.cdf_reader_step.proofs.Asking.{Use, ready, useless, unfit, fit-needed, counts, starts, steps, skips, takes, again}
 use Rattle.cdf_reader_step.proofs.call_at.Statement.{statement}
@@ -85,9 +86,10 @@ returns-3 c =
     (c .first-as .ensures .1)
 
 returns-4 : tie.Need-returns-4
+unfolding nameRow
 returns-4 c =
-    let go = c .before .before .before in
-    steps _ _ _ _ (may (go .before .before)) (fit go) (c .before .enum-told2 .given .1) (c .advance .result) (c .advance .ensures .0)
+    let go = c .before .before .before .before in
+    steps _ _ _ _ (may (go .before .before)) (fit go) (c .before .before .enum-told2 .given .1) (c .advance .result) (c .advance .ensures .0)
     (c .advance .ensures .1)
 
 returns-5 : tie.Need-returns-5

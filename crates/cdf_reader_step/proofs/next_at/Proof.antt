@@ -5,6 +5,7 @@ use borrow.Author.Needs.{needs}
 use borrow.Author.Tests.{not-true, not-false}
 use lib.ListN.{length}
 use Rattle.cdf_unit_prefix.specs.Layout.{layoutOf}
+use Rattle.cdf_unit_data.specs.Standing.{nameRow}
 use Rattle.cdf_reader_spec.specs.Place.{fits}
 use Rattle.cdf_reader_spec.specs.declared.Call.the-variants.{Next}
 use Rattle.cdf_reader_cursor.specs.Outcomes.{cursorPlace}
@@ -43,11 +44,12 @@ advance-requires : tie.Need-advance-requires
 advance-requires c κs = search needs
 
 returns-3 : tie.Need-returns-3
+unfolding nameRow
 returns-3 c =
-    let some = c .before .before .before in
+    let some = c .before .before .before .before in
     let p = some .before .before .before .args .c in
     let told = c .advance .ensures in
-    by-next p _ _ _ (steps p _ _ Next (next-some p (some .if1 .left)) (fit (c .before)) refl (c .advance .result) (told .0) (told .1))
+    by-next p _ _ _ (steps p _ _ Next (next-some p (some .if1 .left)) (fit (c .before .before)) refl (c .advance .result) (told .0) (told .1))
 
 pub next-at-spec : {M : Type 1} → statement M
 next-at-spec =

@@ -9,6 +9,7 @@ use borrow.Author.Needs.{needs}
 use borrow.Author.Tests.{not-true, not-false}
 use lib.ListN.{length}
 use Rattle.cdf_unit_prefix.specs.Layout.{layoutOf}
+use Rattle.cdf_unit_data.specs.Data.{nameBytes}
 use Rattle.cdf_unit_judge.specs.declared.Judged.the-variants.{Fault, Found}
 use Rattle.cdf_unit_judge.proofs.Faults.{told}
 use Rattle.cdf_reader_cursor.specs.Outcomes.{cursorPlace}
@@ -36,7 +37,7 @@ part inside =
     let some = apart .before .before in
     let shut = some .before .before in
     let a = shut .before .before .before .before .before .before .args in
-    let w = within (layoutOf (a .edition)) (a .s .now) (a .c) _ _ (shut .close .ensures) (some .if1 .left) (apart .if2 .left) (lies inside) in
+    let w = within nameBytes (layoutOf (a .edition)) (a .s .now) (a .c) _ _ (shut .close .ensures) (some .if1 .left) (apart .if2 .left) (lies inside) in
     (w .1, w .2)
 
 -- A fault's offset lies in the bytes, and so does the unit that was found: its bounds are numbers that a field can hold.
@@ -49,7 +50,7 @@ fault-lies seen e =
     let some = apart .before .before in
     let shut = some .before .before in
     let a = shut .before .before .before .before .before .before .args in
-    fault-within (layoutOf (a .edition)) (a .s .now) (a .c) _ _ (shut .close .ensures) (some .if1 .left) (apart .if2 .left) (lies inside)
+    fault-within nameBytes (layoutOf (a .edition)) (a .s .now) (a .c) _ _ (shut .close .ensures) (some .if1 .left) (apart .if2 .left) (lies inside)
     (sym (seen .judge .ensures) ∙ e)
 
 unit-lies : (seen : tie.After-judge) {id action own len state : ℕ} → seen .judge .result ≡ Found id action own len state →
@@ -62,7 +63,7 @@ unit-lies seen e =
     let shut = some .before .before in
     let start = shut .before .before .before .before .before .before in
     let a = start .args in
-    let w = unit-within (layoutOf (a .edition)) (a .s .now) (a .c) _ _ (shut .close .ensures) (some .if1 .left) (apart .if2 .left) (lies inside)
+    let w = unit-within nameBytes (layoutOf (a .edition)) (a .s .now) (a .c) _ _ (shut .close .ensures) (some .if1 .left) (apart .if2 .left) (lies inside)
     (sym (seen .judge .ensures) ∙ e) in
     (w .0, omega (arith, w .1, start .good .1 .1 .0 .1))
 
@@ -75,7 +76,7 @@ stopped-requires c κs = search needs
 returns : tie.Need-returns
 returns c =
     let shut = c .before .before .before in
-    stops _ _ _ _ _ (c .stopped .result) (c .stopped .ensures) (λ z. omega arith) (at-end _ _ _ _ _ (shut .close .ensures) (c .before .if1 .taken))
+    stops _ _ _ _ _ (c .stopped .result) (c .stopped .ensures) (λ z. omega arith) (at-end nameBytes _ _ _ _ _ (shut .close .ensures) (c .before .if1 .taken))
 
 stopped-requires-2 : tie.Need-stopped-requires-2
 stopped-requires-2 c κs = search needs
@@ -85,7 +86,7 @@ returns-2 c =
     let some = c .before .before .before in
     let shut = some .before .before in
     stops _ _ _ _ _ (c .stopped2 .result) (c .stopped2 .ensures) (λ z. omega arith)
-    (at-incomplete _ _ _ _ _ (shut .close .ensures) (some .if1 .left) (c .before .if2 .taken))
+    (at-incomplete nameBytes _ _ _ _ _ (shut .close .ensures) (some .if1 .left) (c .before .if2 .taken))
 
 is-inside-requires : tie.Need-is-inside-requires
 is-inside-requires c κs = search needs
@@ -100,7 +101,7 @@ returns-3 c =
     let some = apart .before .before in
     let shut = some .before .before in
     stops _ _ _ _ _ (c .stopped3 .result) (c .stopped3 .ensures) (λ z. omega arith)
-    (outside _ _ _ _ _ (shut .close .ensures) (some .if1 .left) (apart .if2 .left)
+    (outside nameBytes _ _ _ _ _ (shut .close .ensures) (some .if1 .left) (apart .if2 .left)
     (sym (asked .is-inside .ensures) ∙ not-true (asked .is-inside .result) (c .before .if3 .taken)))
 
 sub-judge : tie.Need-sub-judge
@@ -138,7 +139,7 @@ before : (ranked : tie.After-rank-before) →
 before ranked =
     let shut = ranked .before .before .before .before .before .before .before .before .before .before .before .before in
     let a = shut .before .before .before .before .before .before .args in
-    ranked .rank-before .ensures (leaves (layoutOf (a .edition)) (a .s .now) (a .c) _ _ (shut .close .ensures))
+    ranked .rank-before .ensures (leaves nameBytes (layoutOf (a .edition)) (a .s .now) (a .c) _ _ (shut .close .ensures))
 
 has-room-requires : tie.Need-has-room-requires
 has-room-requires c κs = search needs
@@ -156,7 +157,7 @@ returns-4 c =
     let some = apart .before .before in
     let shut = some .before .before in
     stops _ _ _ _ _ (c .stopped5 .result) (c .stopped5 .ensures) (λ z. omega arith)
-    (no-room _ _ _ _ _ (shut .close .ensures) (some .if1 .left) (apart .if2 .left) (lies inside)
+    (no-room nameBytes _ _ _ _ _ (shut .close .ensures) (some .if1 .left) (apart .if2 .left) (lies inside)
     (sym (seen .judge .ensures) ∙ ranked .before .before .id .given .1) _ (before ranked)
     (sym (asked .has-room .ensures) ∙ not-true (asked .has-room .result) (c .before .if4 .taken)))
 
@@ -187,9 +188,9 @@ fitted roomy =
     let start = shut .before .before .before .before .before .before in
     let j = sym (seen .judge .ensures) ∙ ranked .before .before .id .given .1 in
     let room = sym (asked .has-room .ensures) ∙ not-false (asked .has-room .result) (roomy .if4 .left) in (
-      following _ _ _ _ _ (shut .close .ensures) (some .if1 .left) (apart .if2 .left) (lies inside) j _ (before ranked) room
+      following nameBytes _ _ _ _ _ (shut .close .ensures) (some .if1 .left) (apart .if2 .left) (lies inside) j _ (before ranked) room
           (omega (arith, start .good .1 .1 .0 .1)),
-      slots _ _ _ _ _ (shut .close .ensures) (some .if1 .left) (apart .if2 .left) (lies inside) j _ (before ranked) room .1,
+      slots nameBytes _ _ _ _ _ (shut .close .ensures) (some .if1 .left) (apart .if2 .left) (lies inside) j _ (before ranked) room .1,
     )
 
 add-depth : tie.Need-add-depth
@@ -209,7 +210,7 @@ returns-5 c =
     let j = sym (seen .judge .ensures) ∙ c .before .before .number .given .1 in
     let low = told (layoutOf (a .edition)) false _ _ j .low in
     stops _ _ _ _ _ (c .stopped4 .result) (c .stopped4 .ensures) (λ z. omega (arith, low, z))
-    (inside-fault _ _ _ _ _ (shut .close .ensures) (some .if1 .left) (apart .if2 .left) (lies inside) j)
+    (inside-fault nameBytes _ _ _ _ _ (shut .close .ensures) (some .if1 .left) (apart .if2 .left) (lies inside) j)
 
 returns-6 : tie.Need-returns-6
 returns-6 c =
@@ -225,7 +226,7 @@ returns-6 c =
     let room = sym (asked .has-room .ensures) ∙ not-false (asked .has-room .result) (roomy .if4 .left) in
     let count = shut .close .result .count in
     let deep : count + 1 ≡ suc count = omega arith in
-    enters-found _ _ _ _ _ (shut .close .ensures) (some .if1 .left) (apart .if2 .left) (lies inside) j _ (before ranked) room _ _ deep
+    enters-found nameBytes _ _ _ _ _ (shut .close .ensures) (some .if1 .left) (apart .if2 .left) (lies inside) j _ (before ranked) room _ _ deep
     (c .next-rank .ensures (fitted roomy .0))
 
 pub turn-spec : {M : Type 1} → statement M

@@ -1,21 +1,23 @@
--- The loop keeps `Running` (proofs/Filling).
+-- The loop keeps `Running` (proofs/Filling), and the row is 01's.
 use Prim.Native.Nat.{_-_}
-use mathlib.Core.Path.{_≡_}
+use mathlib.Core.Path.{_≡_, refl}
 use native.Mathlib.Omega.{arith}
 use borrow.Author.Needs.{needs}
 use lib.ListN.{length}
+use Rattle.cdf_unit_data.specs.Standing.{nameRow}
 use Rattle.cdf_reader_units.proofs.Filling.{Running, begun, long, fits-more, full, stops, on}
 use Rattle.cdf_reader_units.proofs.run.Statement.{statement}
 use Rattle.cdf_reader_units.proofs.run.Tie as tie
 
 abbrev Inv-loop : tie.InvT-loop
-Inv-loop s list₀ room place₀ count₀ at₀ list place count at = Running s place₀ list₀ list place count at
+Inv-loop s list₀ row room place₀ count₀ at₀ list place count at = Running s place₀ list₀ list place count at × (row ≡ nameRow)
 
 abbrev μ-loop : tie.MeasureT-loop
-μ-loop s list₀ room place₀ count₀ at₀ list place count at = room - count
+μ-loop s list₀ row room place₀ count₀ at₀ list place count at = room - count
 
 loop-holds : tie.Need-loop-holds Inv-loop μ-loop
-loop-holds c = let start = c .before .before in begun (start .args .s .now) (start .args .p) (start .args .list .now) (start .pre)
+unfolding nameRow
+loop-holds c = let start = c .before .before in (begun (start .args .s .now) (start .args .p) (start .args .list .now) (start .pre), refl)
 
 advance-requires : tie.Need-advance-requires Inv-loop μ-loop
 advance-requires c κs = search needs
@@ -25,37 +27,37 @@ stopped-requires c κs = search needs
 
 -- The list keeps its length.
 kept : (turn : tie.At-loop Inv-loop μ-loop) → length (turn .loop .list) ≡ length (turn .before .before .before .args .list .now)
-kept turn = long _ _ _ (turn .loop .inv)
+kept turn = long _ _ _ (turn .loop .inv .0)
 
 same-length : tie.Need-same-length Inv-loop μ-loop
-same-length c = kept (c .before .before .before .before .before)
+same-length c = kept (c .before .before .before .before .before .before)
 
 returns : tie.Need-returns Inv-loop μ-loop
 returns c =
     let told = c .before .before .before in
-    let more = told .before in
-    let turn = more .before in
+    let more = told .before .before in
+    let inv = more .before .loop .inv in
     rw (c .stopped .ensures)
-    (stops _ _ _ (turn .loop .inv) (more .loop-test .taken) (told .advance .result) (told .advance .ensures .0) (c .before .if1 .taken))
+    (stops _ _ _ (inv .0) (more .loop-test .taken) _ (inv .1) (told .advance .result) (told .advance .ensures .0) (c .before .if1 .taken))
 
 write-unit-requires : tie.Need-write-unit-requires Inv-loop μ-loop
 write-unit-requires c κs =
-    let more = c .before .before .before .before .before in fits-more _ _ _ (more .before .loop .inv) (more .loop-test .taken)
+    let more = c .before .before .before .before .before .before in fits-more _ _ _ (more .before .loop .inv .0) (more .loop-test .taken)
 
 add-count : tie.Need-add-count Inv-loop μ-loop
 add-count c =
-    let more = c .before .before .before .before .before .before .before .before .before in
+    let more = c .before .before .before .before .before .before .before .before .before .before in
     omega (arith, more .loop-test .taken)
 
 add-at : tie.Need-add-at Inv-loop μ-loop
 add-at c =
-    let more = c .before .before .before .before .before .before .before .before .before in
+    let more = c .before .before .before .before .before .before .before .before .before .before in
     let turn = more .before in
-    omega (arith, fits-more _ _ _ (turn .loop .inv) (more .loop-test .taken), kept turn)
+    omega (arith, fits-more _ _ _ (turn .loop .inv .0) (more .loop-test .taken), kept turn)
 
 loop-less : tie.Need-loop-less Inv-loop μ-loop
 loop-less c =
-    let more = c .before .before .before .before .before .before .before .before .before in
+    let more = c .before .before .before .before .before .before .before .before .before .before in
     omega (arith, more .loop-test .taken)
 
 loop-again : tie.Need-loop-again Inv-loop μ-loop
@@ -63,10 +65,12 @@ loop-again c =
     let wrote = c .before .before .before in
     let handing = wrote .before .before .before in
     let told = handing .before .before in
-    let more = told .before in
-    let turn = more .before in
-    on _ _ _ (turn .loop .inv) (more .loop-test .taken) (told .advance .result) (told .advance .ensures .0) (handing .if1 .left) _
-    (wrote .write-unit .ensures)
+    let more = told .before .before in
+    let inv = more .before .loop .inv in (
+      on _ _ _ (inv .0) (more .loop-test .taken) _ (inv .1) (told .advance .result) (told .advance .ensures .0) (handing .if1 .left) _
+          (wrote .write-unit .ensures),
+      inv .1,
+    )
 
 stopped-requires-2 : tie.Need-stopped-requires-2 Inv-loop μ-loop
 stopped-requires-2 c κs = search needs
@@ -75,7 +79,7 @@ same-length-2 : tie.Need-same-length-2 Inv-loop μ-loop
 same-length-2 c = kept (c .before .before)
 
 returns-2 : tie.Need-returns-2 Inv-loop μ-loop
-returns-2 c = rw (c .stopped2 .ensures) (full _ _ _ (c .before .before .loop .inv) (c .before .loop-test .left))
+returns-2 c = rw (c .stopped2 .ensures) (full _ _ _ (c .before .before .loop .inv .0) (c .before .loop-test .left))
 
 pub run-spec : {M : Type 1} → statement M
 run-spec =

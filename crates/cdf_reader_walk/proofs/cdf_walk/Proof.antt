@@ -1,9 +1,10 @@
 -- The loop ends, since each unit comes further.
 use Prim.Native.Nat.{_≤_}
-use mathlib.Core.Path.{_≡_, _∙_}
+use mathlib.Core.Path.{_≡_, refl, _∙_}
 use borrow.Author.Needs.{needs}
 use lib.ListN.{length}
 use Rattle.cdf_unit_prefix.specs.Layout.{layoutOf}
+use Rattle.cdf_unit_data.specs.Standing.{nameRow}
 use Rattle.cdf_unit_prefix.specs.declared.Edition.the-variants.{First}
 use Rattle.cdf_reader_spec.specs.Calls.{nextOf}
 use Rattle.cdf_reader.specs.View.{view, replyOf}
@@ -16,19 +17,22 @@ use Rattle.cdf_reader_walk.proofs.cdf_walk.Statement.{statement}
 use Rattle.cdf_reader_walk.proofs.cdf_walk.Tie as tie
 
 abbrev Inv-loop : tie.InvT-loop
-Inv-loop s a₀ h₀ a h = Going mixOf (layoutOf First) s 0 (replyOf a) h × (a .number ≡ 0 → a .place .position ≤ length s)
+Inv-loop s row a₀ h₀ a h =
+    Going mixOf (layoutOf First) s 0 (replyOf a) h × (a .number ≡ 0 → a .place .position ≤ length s) × (row ≡ nameRow)
 
 abbrev μ-loop : tie.MeasureT-loop
-μ-loop s a₀ h₀ a h = ahead (layoutOf First) s (a .number) (a .place .position)
+μ-loop s row a₀ h₀ a h = ahead (layoutOf First) s (a .number) (a .place .position)
 
 first-requires : tie.Need-first-requires Inv-loop μ-loop
 first-requires c κs = search needs
 
 loop-holds : tie.Need-loop-holds Inv-loop μ-loop
+unfolding nameRow
 loop-holds c =
     let s = c .before .before .args .s .now in (
       begun mixOf (layoutOf First) s 0 (replyOf (c .first .result)) (c .first .ensures .0),
-      λ z. (rw (← c .first .ensures .0) at (first-later (layoutOf First) s)) z .1,
+      (λ z. (rw (← c .first .ensures .0) at (first-later (layoutOf First) s)) z .1),
+      refl,
     )
 
 mix-requires : tie.Need-mix-requires Inv-loop μ-loop
@@ -37,22 +41,22 @@ mix-requires c κs = search needs
 advance-requires : tie.Need-advance-requires Inv-loop μ-loop
 advance-requires c κs = search needs
 
--- A unit was handed out; so the place fits, and the step is NEXT.
+-- A unit was handed out; so the place fits, and the step by 01's row is NEXT.
 here : (turn : tie.At-loop Inv-loop μ-loop) → turn .loop .a .number ≡ 0 →
     Turn mixOf (layoutOf First) (turn .before .before .before .args .s .now) 0 (replyOf (turn .loop .a)) (turn .loop .h)
 here turn z =
     turned mixOf (layoutOf First) (turn .before .before .before .args .s .now) 0 (replyOf (turn .loop .a)) (turn .loop .h) (turn .loop .inv .0) z
 
 next : (c : tie.After-advance Inv-loop μ-loop) →
-    let turn = c .before .before .before .before .before .before in
+    let turn = c .before .before .before .before .before .before .before in
     replyOf (c .advance .result) ≡ nextOf (layoutOf First) (turn .before .before .before .args .s .now) (view (turn .loop .a .place))
 next c =
-    let more = c .before .before .before .before in
-    c .advance .ensures .0 ∙ proved .advances _ _ _ (here (more .before .before) (more .if1 .taken) .fit)
+    let more = c .before .before .before .before .before in
+    c .advance .ensures .0 ∙ proved .advances _ (more .before .before .loop .inv .2) _ _ _ (here (more .before .before) (more .if1 .taken) .fit)
 
 loop-less : tie.Need-loop-less Inv-loop μ-loop
 loop-less c =
-    let more = c .before .before .before .before in
+    let more = c .before .before .before .before .before in
     let turn = more .before .before in
     let s = turn .before .before .before .args .s .now in
     let p = turn .loop .a .place in
@@ -61,13 +65,14 @@ loop-less c =
 
 loop-again : tie.Need-loop-again Inv-loop μ-loop
 loop-again c =
-    let more = c .before .before .before .before in
+    let more = c .before .before .before .before .before in
     let turn = more .before .before in
     let s = turn .before .before .before .args .s .now in
     let a = turn .loop .a in
     let p = a .place in (
-      rw (next c, c .before .before .mix .ensures) (here turn (more .if1 .taken) .next),
-      λ z. (rw (← next c) at (next-later (layoutOf First) s (view p))) z .1,
+      rw (next c, c .before .before .before .mix .ensures) (here turn (more .if1 .taken) .next),
+      (λ z. (rw (← next c) at (next-later (layoutOf First) s (view p))) z .1),
+      turn .loop .inv .2,
     )
 
 mix-end-requires : tie.Need-mix-end-requires Inv-loop μ-loop

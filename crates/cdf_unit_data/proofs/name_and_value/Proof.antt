@@ -13,7 +13,7 @@ enum-known-k : tie.Need-enum-known-k
 enum-known-k c = search needs
 
 value-requires : tie.Need-value-requires
-value-requires c κs = name-short _ _ (sym (c .before .before .before .name .ensures) ∙ c .before .k .given .1)
+value-requires c κs = name-short _ _ _ (sym (c .before .before .before .name .ensures) ∙ c .before .k .given .1)
 
 enum-known-k-2 : tie.Need-enum-known-k-2
 enum-known-k-2 c = search needs

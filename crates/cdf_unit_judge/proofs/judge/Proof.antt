@@ -11,26 +11,11 @@ use Rattle.cdf_unit_judge.proofs.Stages.{bounds, stopped, refused, admi
 use Rattle.cdf_unit_judge.proofs.judge.Statement.{statement}
 use Rattle.cdf_unit_judge.proofs.judge.Tie as tie
 
-head-requires : tie.Need-head-requires
-head-requires c κs = search needs
-
-enum-known-n : tie.Need-enum-known-n
-enum-known-n c = search needs
-
-enum-known-id : tie.Need-enum-known-id
-enum-known-id c = search needs
-
-state-after-requires : tie.Need-state-after-requires
-state-after-requires c κs = search needs
-
 returns : tie.Need-returns
 returns c =
     let told = c .before .before .before in
-    refused _ _ _ _ (told .before .before .head .ensures) _ (told .id .given .1) _
+    refused _ _ _ _ (told .before .before .head .ensures) _ _ (told .id .given .1) _
     (c .before .state-after .ensures ∙ sym (admits-nested _ _)) (c .if1 .taken)
-
-prefix-requires : tie.Need-prefix-requires
-prefix-requires c κs = search needs
 
 -- The bytes after the prefix are there.
 lies : (c : tie.After-prefix) →
@@ -43,20 +28,8 @@ lies c =
     let fit = bounds (layoutOf (read .before .before .args .edition)) _ _ _ (read .head .ensures) (told .id .given .1) in
     omega (arith, fit, c .prefix .ensures .0)
 
-sub-judge-admitted : tie.Need-sub-judge-admitted
-sub-judge-admitted c = omega (arith, lies c)
-
-part-judge-admitted-start : tie.Need-part-judge-admitted-start
-part-judge-admitted-start c = omega (arith, lies c)
-
-part-judge-admitted-end : tie.Need-part-judge-admitted-end
-part-judge-admitted-end c = omega (arith, lies c)
-
-judge-admitted-requires : tie.Need-judge-admitted-requires
-judge-admitted-requires c κs = search needs
-
 returns-2 : tie.Need-returns-2
-returns-2 c = stopped _ _ _ _ (c .before .before .before .head .ensures) _ (c .before .n .given .1)
+returns-2 c = stopped _ _ _ _ (c .before .before .before .head .ensures) _ _ (c .before .n .given .1)
 
 returns-3 : tie.Need-returns-3
 returns-3 c =
@@ -64,22 +37,22 @@ returns-3 c =
     let passed = prefixed .before in
     let told = passed .before .before .before in
     c .judge-admitted .ensures
-    ∙ admitted _ _ _ _ (told .before .before .head .ensures) _ (told .id .given .1) _
+    ∙ admitted _ _ _ _ (told .before .before .head .ensures) _ _ (told .id .given .1) _
     (passed .before .state-after .ensures ∙ sym (admits-nested _ _)) (passed .if1 .left) _ (prefixed .prefix .ensures .0)
 
 pub judge-spec : {M : Type 1} → statement M
 judge-spec =
     tie.close
     (tie.spec
-    head-requires
-    enum-known-n
-    enum-known-id
-    state-after-requires
+    (λ c κs. search needs)
+    (λ c. search needs)
+    (λ c. search needs)
+    (λ c κs. search needs)
     returns
-    prefix-requires
-    sub-judge-admitted
-    part-judge-admitted-start
-    part-judge-admitted-end
-    judge-admitted-requires
+    (λ c κs. search needs)
+    (λ c. omega (arith, lies c))
+    (λ c. omega (arith, lies c))
+    (λ c. omega (arith, lies c))
+    (λ c κs. search needs)
     returns-2
     returns-3)

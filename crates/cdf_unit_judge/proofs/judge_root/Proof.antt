@@ -40,7 +40,7 @@ first-state-requires : tie.Need-first-state-requires
 first-state-requires c κs = search needs
 
 returns-3 : tie.Need-returns-3
-returns-3 c = stopped _ _ _ _ (c .before .before .before .head .ensures) _ (c .before .n .given .1)
+returns-3 c = stopped _ _ _ _ (c .before .before .before .head .ensures) _ _ (c .before .n .given .1)
 
 returns-4 : tie.Need-returns-4
 returns-4 c =

@@ -3,7 +3,8 @@ use borrow.Author.Needs.{needs}
 use Rattle.cdf_unit_prefix.specs.Layout.{layoutOf}
 use Rattle.cdf_unit_prefix.specs.declared.Edition.the-variants.{First}
 use Rattle.cdf_reader_spec.specs.declared.Call.the-variants.{Next}
-use Rattle.cdf_reader_advance.specs.Advancing.{advanced}
+use Rattle.cdf_unit_data.specs.Standing.{rowBytes}
+use Rattle.cdf_reader_advance.specs.Advancing.{advancedBy}
 use Rattle.cdf_reader.proofs.Answering.{due, keeps}
 use Rattle.cdf_reader.proofs.Place.advance.Statement.{statement}
 use Rattle.cdf_reader.proofs.Place.advance.Tie as tie
@@ -21,8 +22,8 @@ returns : tie.Need-returns
 returns c =
     let told = c .before in
     let at = told .before in
-    let s = at .before .before .args .s .now in (
-      due _ _ (at .cursor .ensures) _ _ (c .answered .ensures) (advanced (layoutOf First) s) (told .advance .ensures .0),
+    let a = at .before .before .args in (
+      due _ _ (at .cursor .ensures) _ _ (c .answered .ensures) (advancedBy (rowBytes (a .row .now)) (layoutOf First) (a .s .now)) (told .advance .ensures .0),
       keeps _ _ (at .cursor .ensures) _ _ (c .answered .ensures) Next (told .advance .ensures .1),
     )
 
