@@ -40,6 +40,25 @@ def plain(error):
     return re.sub(r"built in \d+ seconds", "built in N seconds", error)
 
 
+ENDS = signal.SIGTERM, signal.SIGINT, signal.SIGHUP
+LONGEST = 60  # seconds that a run may take
+
+
+def heard():
+    """A gate in the background is started with some of these ignored, and a shell cannot take that back: here all are as in a terminal."""
+    for end in ENDS:
+        signal.signal(end, signal.SIG_DFL)
+
+
+def ended(run):
+    """What a run wrote; one that does not end is killed, which its status then says."""
+    try:
+        return run.communicate(timeout=LONGEST)
+    except subprocess.TimeoutExpired:
+        run.kill()
+        return run.communicate()
+
+
 class Copy:
     """A tree with the launcher, whose program is to be built."""
 
@@ -62,11 +81,11 @@ class Copy:
     def start(self, *words, path="tree/cdf", **environment):
         env = {"PATH": str(self.bin), "STAND_INS": str(self.folder), **environment}
         return subprocess.Popen([self.folder / path, *words], cwd=self.folder, env=env, stdin=subprocess.DEVNULL, stdout=subprocess.PIPE,
-                                stderr=subprocess.PIPE, text=True)
+                                stderr=subprocess.PIPE, text=True, preexec_fn=heard)
 
     def run(self, *words, **more):
         run = self.start(*words, **more)
-        output, error = run.communicate()
+        output, error = ended(run)
         return output, plain(error), run.returncode
 
     def calls(self):
@@ -110,7 +129,7 @@ def runs(root, compare, differs):
     with tempfile.TemporaryDirectory() as name:
         copy = Copy(root, Path(name))
         first, second = copy.start("list", "a"), copy.start("check", "b")
-        said = [(*run.communicate(), run.returncode) for run in (first, second)]
+        said = [(*ended(run), run.returncode) for run in (first, second)]
         errors = sorted(plain(error) for _, error, _ in said)
         waits = "cdf: another call is building, waiting\n"
         differs("two first builds at once", ("outputs", [output for output, _, _ in said], ["ran: list a\n", "ran: check b\n"]),
@@ -134,13 +153,13 @@ def runs(root, compare, differs):
 
     with tempfile.TemporaryDirectory() as name:
         copy = Copy(root, Path(name))
-        for end in (signal.SIGTERM, signal.SIGINT, signal.SIGHUP):
+        for end in ENDS:
             before = len(copy.calls())
             run = copy.start("x")
-            while len(copy.calls()) == before:
+            while len(copy.calls()) == before and run.poll() is None:
                 time.sleep(0.02)
             run.send_signal(end)
-            output, error = run.communicate()
+            output, error = ended(run)
             pid = int(copy.calls()[-1].split()[0])
             until = time.time() + 5
             while alive(pid) and time.time() < until:
