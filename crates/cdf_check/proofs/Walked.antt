@@ -108,7 +108,7 @@ module _ {l : Layout} {levels : ℕ} {s : List ℕ} {state base body count at no
     here e = let start : base + at + 0 ≡ base + at = omega arith in refusal (base + length s) (rw start at (turns e))
 
     pub stopped : {k : ℕ} → x ≡ Stop k → Inside (Refused k (base + at))
-    stopped e = here (stages.stopped l false (drop at s) x is _ now e)
+    stopped e = here (stages.stopped l false (drop at s) x is _ (admits false now) e ∙ stages.in-is _ l false now (drop at s))
 
     -- `next` is the enclosing unit's state once it has had this one.
     module _ {id action len : ℕ} (e : x ≡ Prefix id action len) (next : ℕ) (may : next ≡ admit now id) where
@@ -116,7 +116,7 @@ module _ {l : Layout} {levels : ℕ} {s : List ℕ} {state base body count at no
       admits-it = may ∙ sym (admits-nested now id)
 
       pub not-here : next ≡ 0 → Inside (Refused 7 (base + at))
-      not-here none = here (stages.refused l false (drop at s) x is _ now e next admits-it none)
+      not-here none = here (stages.refused l false (drop at s) x is _ (admits false now) e next admits-it none ∙ stages.in-is _ l false now (drop at s))
 
       module _ (some : next ≡ 0 → ⊥) where
         pub lies : Lies l levels s at id len next
@@ -135,7 +135,8 @@ module _ {l : Layout} {levels : ℕ} {s : List ℕ} {state base body count at no
             ≡ andThen (λ m. walk l (insideOf l (levels - 1)) (g .fuel - 1) s base next (at + len) m) nested
         unfolding checkedUnit
         answers =
-            turns (stages.admitted l false (drop at s) x is _ now e next admits-it some (prefixOf l) refl)
+            turns
+            (stages.admitted l false (drop at s) x is _ (admits false now) e next admits-it some (prefixOf l) refl ∙ stages.in-is _ l false now (drop at s))
             ∙ rw (minus-plus len at, drop-take (prefixOf l) len (drop at s))
             (by-body l (insideOf l (levels - 1)) _ (base + at) n (drop at s) id action len next _)
 

@@ -55,7 +55,7 @@ pub struct Answer {
 }
 
 // The answer that an outcome is.
-fn answered(o: Outcome) -> Answer
+pub fn answered(o: Outcome) -> Answer
     ensures { λ r. ⌜ r ≡ answerOf o ⌝ }
 {
     let handed = o.handed;
@@ -87,7 +87,7 @@ fn answered(o: Outcome) -> Answer
 
 impl Place {
     // The same parts.
-    fn cursor(self) -> Cursor
+    pub fn cursor(self) -> Cursor
         ensures { λ r. ⌜ r ≡ cursorOf self ⌝ }
     {
         let top = self.top;

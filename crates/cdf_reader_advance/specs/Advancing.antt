@@ -1,13 +1,15 @@
 -- A step at any place: what NEXT does, without the test of the place, and where it cannot be done a number of its own. At a place that fits it
 -- is NEXT (a claim of cdf_reader), so loops over places that the library made go by it.
 use Prim.Native.Nat.{ℕ, suc}
-use mathlib.Core.Bool.{Bool, true, cond, _&&_, _||_}
+use mathlib.Core.Bool.{Bool, true, false, cond, _&&_, _||_}
 use mathlib.Core.List.{List, [], _∷_}
 use lib.Dec.{leb, ltb, eqb}
 use lib.ListN.{length}
 use Rattle.cdf_unit_prefix.specs.Layout.{Layout}
 use Rattle.cdf_unit_data.specs.Data.{NameBytes, nameBytes}
-use Rattle.cdf_unit_list.specs.Stack.{Step, done, refused, found, stepBy}
+use Rattle.cdf_unit_judge.specs.Judge.{judgeIn}
+use Rattle.cdf_unit_judge.specs.declared.Judged.{Judged}
+use Rattle.cdf_unit_list.specs.Stack.{Step, done, refused, found, stepWith}
 use Rattle.cdf_unit_list.specs.declared.Open.{Open}
 use Rattle.cdf_reader_spec.specs.Place.{ReaderPlace}
 use Rattle.cdf_reader_spec.specs.Closing.{unclosed}
@@ -39,12 +41,16 @@ hasRoom p done = true
 hasRoom p (refused n at) = true
 hasRoom p (found u os pos) = leb (length os) 4 && leb (rankOn p) (p .position)
 
--- By the bytes that may stand in a name.
-unfoldable pub advancedBy : NameBytes → Layout → List ℕ → ReaderPlace → Reply
-unfolding stepBy unclosed hasBytes hasRoom stepped
-advancedBy w l s p =
-    let next = stepBy w l s (p .units) (p .position) in
+-- By any judge of a nested unit.
+unfoldable pub advancedWith : (ℕ → List ℕ → Judged) → List ℕ → ReaderPlace → Reply
+unfolding stepWith unclosed hasBytes hasRoom stepped
+advancedWith judge s p =
+    let next = stepWith judge s (p .units) (p .position) in
     cond (hasBytes (length s) (p .position) (unclosed (p .units) (p .position)) && hasRoom p next) (stepped p next) (refuse noStep 0 p)
+
+-- By the bytes that may stand in a name.
+abbrev pub advancedBy : NameBytes → Layout → List ℕ → ReaderPlace → Reply
+advancedBy w l = advancedWith (judgeIn w l false)
 
 -- With 01's.
 abbrev pub advanced : Layout → List ℕ → ReaderPlace → Reply

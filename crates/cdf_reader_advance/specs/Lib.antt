@@ -1,3 +1,3 @@
 pub mod Advancing
-pub mod Following
+pub mod Ranks
 pub mod Claims

@@ -6,10 +6,9 @@ ghost use lib.Dec.{leb, ltb};
 ghost use Rattle.cdf_unit_table.specs.States.{opens};
 ghost use Rattle.cdf_unit_prefix.specs.Layout.{layoutOf};
 ghost use Rattle.cdf_unit_data.specs.Standing.{rowBytes};
-ghost use Rattle.cdf_reader_spec.specs.Ranking.{nextRank};
 ghost use Rattle.cdf_reader_cursor.specs.Outcomes.{cursorPlace, outcomeReply};
-ghost use Rattle.cdf_reader_advance.specs.Advancing.{isInside, rankOn, advancedBy};
-ghost use Rattle.cdf_reader_advance.specs.Following.{Leaves, Following};
+ghost use Rattle.cdf_reader_advance.specs.Advancing.{isInside, advancedBy};
+ghost use Rattle.cdf_reader_advance.specs.Ranks.{rankBefore, rankFrom};
 use cdf_reader_close::close;
 use cdf_reader_close::rank_at;
 use cdf_reader_cursor::Cursor;
@@ -50,7 +49,7 @@ pub fn has_room(left: usize, id: usize, before: usize, at: usize) -> bool
 
 // The rank before the next unit's, where so many units are left: of the outermost that closes, else of the last one.
 pub fn rank_before(c: Cursor, left: usize) -> usize
-    ensures { λ r. ⌜ (Leaves c left → suc r ≡ rankOn (cursorPlace c)) ⌝ }
+    ensures { λ r. ⌜ r ≡ rankBefore c left ⌝ }
 {
     let ranks = c.ranks;
     if c.count <= left {
@@ -63,7 +62,7 @@ pub fn rank_before(c: Cursor, left: usize) -> usize
 // How the unit at the position ranks: after the outermost unit that closes there, else in the last unit, if that is the innermost by its
 // start, and else after it.
 pub fn next_rank(c: Cursor, left: usize, before: usize) -> usize
-    ensures { λ r. ⌜ (Following c left before → r ≡ nextRank (cursorPlace c)) ⌝ }
+    ensures { λ r. ⌜ r ≡ rankFrom c left before ⌝ }
 {
     if before == HIGHEST {
         return HIGHEST;

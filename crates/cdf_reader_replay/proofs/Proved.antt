@@ -14,7 +14,7 @@ use Rattle.cdf_reader_replay.specs.Claims.{Writes, one, other, Claims}
 use Rattle.cdf_reader_replay.proofs.Replaying.{calls-known, calls-none}
 
 -- A replay writes what the reader tells.
-writes : (s codes : List ℕ) (answers : List Told) → ranOf s codes ≡ answers → Writes s codes answers
+pub writes : (s codes : List ℕ) (answers : List Told) → ranOf s codes ≡ answers → Writes s codes answers
 writes s codes answers same before room number after answer w =
     let ran = ranOf s codes in (
       w .told ∙ ap (λ b. cond b 12 0) room,

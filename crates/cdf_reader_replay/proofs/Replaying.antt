@@ -25,7 +25,6 @@ use Rattle.cdf_reader_numbers.specs.Taking.{partBy}
 use Rattle.cdf_reader_numbers.proofs.Calling.{taken-is}
 use Rattle.cdf_reader_replay.specs.Replay.{knownCode, callBy, callsOf, ranOf, entryOf, entries, logAfter}
 use Rattle.cdf_reader_replay.specs.Holding.{Held, toldOf}
-use Rattle.cdf_reader_replay.specs.declared.Span.{Span}
 
 -- One more entry,
 entries-more : (ts : List Told) (t : Told) → entries (ts ++ (t ∷ [])) ≡ entries ts ++ entryOf t
@@ -80,19 +79,18 @@ module _ (s codes log₀ : List ℕ) where
   begun = record { held = λ some. absurd (some refl); within = omega arith; eleven = refl; done = []; count = refl; all = refl; is = refl }
 
   -- What is told of a turn is what the reader tells of its call.
-  told-is : (v : ReaderPlace) (c : Call) (o : Outcome) (part : Span) → outcomeReply o ≡ callOf (layoutOf First) s v c →
-      _≡_ {A = Part} (record { start = part .start; size = part .size }) (partBy c (o .number) (v .last .start) (v .last .end)) →
+  told-is : (v : ReaderPlace) (c : Call) (o : Outcome) (part : Part) → outcomeReply o ≡ callOf (layoutOf First) s v c →
+      part ≡ partBy c (o .number) (v .last .start) (v .last .end) →
       toldOf o part ≡ tells (layoutOf First) s v c
   told-is v c o part is by =
-      let taken : _≡_ {A = Part} (record { start = part .start; size = part .size }) (partTaken (layoutOf First) s v c) =
+      let taken : part ≡ partTaken (layoutOf First) s v c =
       by ∙ ap (λ (r : Reply). partBy c (r .number) (v .last .start) (v .last .end)) is ∙ sym (taken-is s v c) in
       ap (telling (outcomeReply o)) taken ∙ ap (λ (r : Reply). telling r (partTaken (layoutOf First) s v c)) is
 
   module _ {log : List ℕ} {c : Cursor} {k at : ℕ} (r : Running log c k at) where
-    pub on : k < length codes → knownCode (getD codes k 0) ≡ true → (tail : List ℕ) (o : Outcome) (part : Span) →
+    pub on : k < length codes → knownCode (getD codes k 0) ≡ true → (tail : List ℕ) (o : Outcome) (part : Part) →
         outcomeReply o ≡ callOf (layoutOf First) s (cursorPlace c) (callBy (getD codes k 0)) → Held s (o .cursor) →
-        _≡_ {A = Part} (record { start = part .start; size = part .size })
-        (partBy (callBy (getD codes k 0)) (o .number) (c .last .start) (c .last .end)) →
+        part ≡ partBy (callBy (getD codes k 0)) (o .number) (c .last .start) (c .last .end) →
         tail ≡ entryOf (toldOf o part) ++ drop 11 (take (length log - at) (drop at log)) →
         Running (putMid at (length log - at) log tail) (o .cursor) (k + 1) (at + 11)
     on less known tail o part w held by is =

@@ -7,21 +7,16 @@ use lib.ListN.{length}
 use Rattle.cdf_unit_prefix.specs.Layout.{layoutOf}
 use Rattle.cdf_unit_prefix.specs.declared.Edition.the-variants.{First}
 use Rattle.cdf_reader_spec.specs.Place.{fits}
+use Rattle.cdf_reader_spec.specs.Calls.{Part}
 use Rattle.cdf_reader_cursor.specs.Outcomes.{cursorPlace}
 use Rattle.cdf_reader_cursor.specs.declared.Cursor.{Cursor}
 use Rattle.cdf_reader_cursor.specs.declared.Outcome.{Outcome}
 use Rattle.cdf_reader_plain.specs.Calls.{Told}
-use Rattle.cdf_reader_replay.specs.declared.Span.{Span}
 
 -- A place with an open unit fits.
 abbrev pub Held : List ℕ → Cursor → Type 0
 Held s c = (c .count ≡ 0 → ⊥) → fits (layoutOf First) (length s) (cursorPlace c) ≡ true
 
 -- What is told of an outcome, with the part taken.
-abbrev pub toldOf : Outcome → Span → Told
-toldOf o part = record {
-  number = o .number;
-  offset = o .offset;
-  part = record { start = part .start; size = part .size };
-  handed = o .handed;
-}
+abbrev pub toldOf : Outcome → Part → Told
+toldOf o part = record { number = o .number; offset = o .offset; part = part; handed = o .handed }

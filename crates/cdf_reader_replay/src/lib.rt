@@ -128,7 +128,7 @@ fn part_of(code: u8, number: usize, start: usize, end: usize) -> Span
 // Writes an entry to the front of what is left of the log.
 fn write_entry(tail: &mut [u64], o: Outcome, part: Span)
     requires { ⌜ 11 ≤ length (now tail) ⌝ }
-    ensures { λ r. ⌜ now (tail .exit) ≡ entryOf (toldOf o part) ++ drop 11 (now (tail .entry)) ⌝ }
+    ensures { λ r. ⌜ now (tail .exit) ≡ entryOf (toldOf o (record { start = part .start; size = part .size })) ++ drop 11 (now (tail .entry)) ⌝ }
 {
     let handed = o.handed;
     let unit = handed.unit;

@@ -24,7 +24,7 @@ use cdf_unit_list::Ranked;
 use cdf_unit_prefix::Edition;
 
 // Whether the place could belong to n bytes.
-fn is_fit(c: Cursor, edition: Edition, n: usize) -> bool
+pub fn is_fit(c: Cursor, edition: Edition, n: usize) -> bool
     ensures { λ r. ⌜ r ≡ fits (layoutOf edition) n (cursorPlace c) ⌝ }
 {
     let top = c.top;

@@ -8,7 +8,6 @@ ghost use Rattle.cdf_reader_numbers.specs.Numbers.{placeFrom, numbersOf};
 ghost use Rattle.cdf_reader_step_numbers.specs.Numbered.{Stepped, stepDue};
 use cdf_reader::Place;
 use cdf_reader_close::rank_at;
-use cdf_reader_cursor::Cursor;
 use cdf_reader_numbers::place_from;
 use cdf_reader_numbers::write_place;
 use cdf_reader_spec::Ranks;
@@ -17,29 +16,6 @@ use cdf_unit_list::Open;
 use cdf_unit_list::Ranked;
 use cdf_unit_prefix::Edition;
 use cdf_unit_table::first_state;
-
-// The same parts.
-fn cursor_of(p: Place) -> Cursor
-    ensures { λ r. ⌜ r ≡ cursorOf p ⌝ }
-{
-    let top = p.top;
-    let o1 = p.o1;
-    let o2 = p.o2;
-    let o3 = p.o3;
-    let last = p.last;
-    let ranks = p.ranks;
-    Cursor {
-        position: p.position,
-        count: p.count,
-        top,
-        o1,
-        o2,
-        o3,
-        last,
-        fresh: p.fresh,
-        ranks,
-    }
-}
 
 // Writes an answer that tells a refusal.
 fn refuse(offset: usize, a: &mut [u64; 10])
@@ -164,7 +140,7 @@ pub fn step_at(s: &[u8], place: &mut [u64; 25], answer: &mut [u64; 10]) -> u64
     ensures { λ r. ⌜ Stepped (stepDue (now (s .entry)) (now (place .entry))) (now (place .entry)) r (now (place .exit)) (now (answer .exit)) ⌝ }
 {
     let p = place_from(place);
-    let c = cursor_of(p);
+    let c = p.cursor();
     let t = turn(c, Edition::First, s);
     if t.number != 0 {
         refuse(t.offset, answer);

@@ -11,7 +11,7 @@ ghost use Rattle.cdf_reader.specs.View.{view};
 ghost use Rattle.cdf_reader_units.specs.Filling.{unitNumbers, Fills};
 ghost use Rattle.cdf_reader_units.specs.Stopping.{stoppedAt};
 use cdf_reader::Place;
-use cdf_reader_fit::fits;
+use cdf_reader_step::is_fit;
 use cdf_unit_data::row::NAME_BYTES;
 use cdf_unit_list::Ranked;
 use cdf_unit_prefix::Edition;
@@ -22,31 +22,6 @@ pub struct Filled {
     pub offset: usize,
     pub count: usize,
     pub place: Place,
-}
-
-// Whether the place could belong to n bytes.
-fn is_fit(p: Place, n: usize) -> bool
-    ensures { λ r. ⌜ r ≡ fits (layoutOf First) n (view p) ⌝ }
-{
-    let top = p.top;
-    let o1 = p.o1;
-    let o2 = p.o2;
-    let o3 = p.o3;
-    let last = p.last;
-    let ranks = p.ranks;
-    fits(
-        Edition::First,
-        n,
-        p.position,
-        p.count,
-        top,
-        o1,
-        o2,
-        o3,
-        last,
-        p.fresh,
-        ranks,
-    )
 }
 
 // Writes the numbers of a unit.
@@ -116,7 +91,8 @@ pub fn fill(p: Place, s: &[u8], list: &mut [u64]) -> Filled
         return stopped(11, 0, 0, p);
     }
     let n = s.len();
-    if !is_fit(p, n) {
+    let c = p.cursor();
+    if !is_fit(c, Edition::First, n) {
         return stopped(2, 0, 0, p);
     }
     run(p, s, list)

@@ -1,3 +1,4 @@
 pub mod Placed
 pub mod Stages
+pub mod Keeping
 pub mod Faults

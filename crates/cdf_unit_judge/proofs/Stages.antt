@@ -30,25 +30,31 @@ module _ (l : Layout) (root : Bool) (s : List ℕ) (h : Header) (head : h ≡ he
   pub bounds : {id action len : ℕ} → h ≡ Prefix id action len → (prefixOf l ≤ len) × (len ≤ length s)
   bounds e = let w = headed l root s _ _ _ (sym head ∙ e) in (w .low, w .fit .high)
 
-  module _ (w : NameBytes) (state : ℕ) where
-    by-head : judgeHead w l (admits root state) s h ≡ judgeIn w l root state s
-    unfolding judgeIn judgeBy
-    by-head = ap (judgeHead w l (admits root state) s) head
+  -- by any admission
+  module _ (w : NameBytes) (admission : ℕ → ℕ) where
+    by-head : judgeHead w l admission s h ≡ judgeBy w l root admission s
+    unfolding judgeBy
+    by-head = ap (judgeHead w l admission s) head
 
-    pub stopped : {n : ℕ} → h ≡ Stop n → Fault n 0 ≡ judgeIn w l root state s
+    pub stopped : {n : ℕ} → h ≡ Stop n → Fault n 0 ≡ judgeBy w l root admission s
     unfolding judgeHead
     stopped e = rw e at by-head
 
-    module _ {id action len : ℕ} (e : h ≡ Prefix id action len) (next : ℕ) (may : next ≡ admits root state id) where
-      pub refused : next ≡ 0 → Fault 7 0 ≡ judgeIn w l root state s
+    module _ {id action len : ℕ} (e : h ≡ Prefix id action len) (next : ℕ) (may : next ≡ admission id) where
+      pub refused : next ≡ 0 → Fault 7 0 ≡ judgeBy w l root admission s
       unfolding judgeHead
       refused z = rw (e, ← may, eq-eqb next 0 z) at by-head
 
       -- The prefix has p bytes.
       pub admitted : (next ≡ 0 → ⊥) → (p : ℕ) → p ≡ prefixOf l →
-          foundBy l id action len next (bodyBy w id action (take (len - p) (drop p s))) ≡ judgeIn w l root state s
+          foundBy l id action len next (bodyBy w id action (take (len - p) (drop p s))) ≡ judgeBy w l root admission s
       unfolding judgeHead
       admitted some p q = rw q (rw (e, ← may, ne-eqb next 0 some) at by-head)
+
+-- The rows admit.
+pub in-is : (w : NameBytes) (l : Layout) (root : Bool) (state : ℕ) (s : List ℕ) → judgeBy w l root (admits root state) s ≡ judgeIn w l root state s
+unfolding judgeIn
+in-is w l root state s = refl
 
 -- A root has the action none and no own data.
 record Root (id : ℕ) : Type 0 where
@@ -77,12 +83,15 @@ root-whole w true state id action t {k} some e =
 module _ (l : Layout) (s : List ℕ) (h : Header) (head : h ≡ headOf l true s) {id action len : ℕ} (e : h ≡ Prefix id action len) where
   pub root-other : rootKind id ≡ false → Fault 7 0 ≡ judgeOf l true 0 s
   unfolding admits
-  root-other k = refused l true s h head nameBytes 0 e (cond (rootKind id) (nothing id) 0) refl (rw k)
+  root-other k =
+      refused l true s h head nameBytes (admits true 0) e (cond (rootKind id) (nothing id) 0) refl (rw k) ∙ in-is nameBytes l true 0 s
 
   root-body : rootKind id ≡ true → {d : Body} → bodyOf id action (take (len - prefixOf l) (drop (prefixOf l) s)) ≡ d →
       foundBy l id action len (nothing id) d ≡ judgeOf l true 0 s
   root-body k q =
-      rw (← q) (admitted l true s h head nameBytes 0 e (nothing id) (sym (admits-root 0 id k)) (root-opens id k) (prefixOf l) refl)
+      rw (← q)
+      (admitted l true s h head nameBytes (admits true 0) e (nothing id) (sym (admits-root 0 id k)) (root-opens id k) (prefixOf l) refl
+      ∙ in-is nameBytes l true 0 s)
 
   pub root-acts : rootKind id ≡ true → (action ≡ 0 → ⊥) → Fault 8 0 ≡ judgeOf l true 0 s
   unfolding bodyBy foundBy

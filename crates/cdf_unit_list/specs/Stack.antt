@@ -49,13 +49,23 @@ entered pos around (Found id action k len state) =
 unfoldable pub withState : Open → ℕ → Open
 withState o state = record { state = state; start = o .start; end = o .end }
 
+-- By any judge of a nested unit, which is given the state of the unit around it and what that one has left. Units close by their lengths; what
+-- may come next is the judge's matter alone.
+unfoldable pub stepInWith : (ℕ → List ℕ → Judged) → List ℕ → ℕ → Closing → Step
+unfolding entered withState
+stepInWith judge s pos (incomplete at) = refused 10 at
+stepInWith judge s pos (left []) = done
+stepInWith judge s pos (left (o ∷ os)) =
+    entered pos (λ state. withState o state ∷ os) (judge (o .state) (take (o .end - pos) (drop pos s)))
+
+unfoldable pub stepWith : (ℕ → List ℕ → Judged) → List ℕ → List Open → ℕ → Step
+unfolding stepInWith close
+stepWith judge s os pos = stepInWith judge s pos (close os pos)
+
 -- By the bytes that may stand in a name.
 unfoldable pub stepInBy : NameBytes → Layout → List ℕ → ℕ → Closing → Step
-unfolding entered withState judgeIn
-stepInBy w l s pos (incomplete at) = refused 10 at
-stepInBy w l s pos (left []) = done
-stepInBy w l s pos (left (o ∷ os)) =
-    entered pos (λ state. withState o state ∷ os) (judgeIn w l false (o .state) (take (o .end - pos) (drop pos s)))
+unfolding stepInWith judgeIn
+stepInBy w l s pos closing = stepInWith (judgeIn w l false) s pos closing
 
 unfoldable pub stepBy : NameBytes → Layout → List ℕ → List Open → ℕ → Step
 unfolding stepInBy close

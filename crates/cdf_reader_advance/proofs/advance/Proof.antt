@@ -1,21 +1,23 @@
--- Each return by its law (proofs/Stepped), which wants what is known at the places of the code: `shut` past the closing, `some` past the test that
--- a unit is left open, `apart` past the test that it ends later, `inside` past the test of the part, `seen` past the judge, `ranked` past
--- the rank before, and `roomy` past the test of room.
+-- Each return by its law (proofs/Stepped), which wants what is known at the places of the code: `shut` past the closing,
+-- `some` past the test that a unit is left open, `apart` past the test that it ends later, `inside` past the test of the part, `seen` past
+-- the judge, `ranked` past the rank before, and `roomy` past the test of room.
 use Prim.Native.Nat.{ℕ, suc, _+_, _≤_, _<_}
 use mathlib.Core.Path.{_≡_, sym, ap, _∙_}
-use mathlib.Core.Bool.{true}
+use mathlib.Core.Bool.{true, false}
 use native.Mathlib.Omega.{arith}
 use borrow.Author.Needs.{needs}
 use borrow.Author.Tests.{not-true, not-false}
 use lib.ListN.{length}
 use Rattle.cdf_unit_prefix.specs.Layout.{layoutOf}
 use Rattle.cdf_unit_data.specs.Standing.{rowBytes}
+use Rattle.cdf_unit_judge.specs.Judge.{judgeIn}
 use Rattle.cdf_unit_judge.specs.declared.Judged.the-variants.{Fault, Found}
+use Rattle.cdf_unit_judge.proofs.Keeping.{in-keeps}
 use Rattle.cdf_reader_cursor.specs.Outcomes.{cursorPlace, outcomeReply}
 use Rattle.cdf_reader_cursor.specs.Entering.{entering}
 use Rattle.cdf_reader_cursor.specs.declared.Outcome.{Outcome}
 use Rattle.cdf_reader_advance.specs.Advancing.{isInside, rankOn}
-use Rattle.cdf_reader_advance.specs.Following.{Following}
+use Rattle.cdf_reader_advance.proofs.Standing.{Following, before-is, from-is}
 use Rattle.cdf_reader_advance.proofs.Stepped.{refuses, leaves, at-end, at-incomplete, outside, inside-fault, no-room, following, slots}
 use Rattle.cdf_reader_advance.proofs.Stepped.{enters-found, within, unit-within, fault-within}
 use Rattle.cdf_reader_advance.proofs.advance.Statement.{statement}
@@ -37,8 +39,8 @@ part inside =
     let some = apart .before .before in
     let shut = some .before .before in
     let a = shut .before .before .before .before .before .before .args in
-    let w = within (rowBytes (a .row .now)) (layoutOf (a .edition)) (a .s .now) (a .c) _ _ (shut .close .ensures)
-    (some .if1 .left) (apart .if2 .left) (lies inside) in
+    let judge = judgeIn (rowBytes (a .row .now)) (layoutOf (a .edition)) false in
+    let w = within judge (a .s .now) (a .c) _ _ (shut .close .ensures) (some .if1 .left) (apart .if2 .left) (lies inside) in
     (w .1, w .2)
 
 -- A fault's offset lies in the bytes, and so does the unit that was found: its bounds are numbers that a field can hold.
@@ -52,9 +54,10 @@ fault-lies seen e =
     let shut = some .before .before in
     let start = shut .before .before .before .before .before .before in
     let a = start .args in
-    let h = fault-within (rowBytes (a .row .now)) (layoutOf (a .edition)) (a .s .now) (a .c) _ _ (shut .close .ensures) (some .if1 .left)
-    (apart .if2 .left) (lies inside) (sym (seen .judge-by .ensures) ∙ e) in
-    omega (arith, h, start .good .1 .1 .1 .0 .1)
+    let judge = judgeIn (rowBytes (a .row .now)) (layoutOf (a .edition)) false in
+    let w = fault-within judge (a .s .now) (a .c) _ _ (shut .close .ensures) (some .if1 .left) (apart .if2 .left) (lies inside)
+    (in-keeps (rowBytes (a .row .now)) (layoutOf (a .edition)) false) (sym (seen .judge-by .ensures) ∙ e) in
+    omega (arith, w, start .good .1 .1 .1 .0 .1)
 
 unit-lies : (seen : tie.After-judge-by) {id action own len state : ℕ} → seen .judge-by .result ≡ Found id action own len state →
     let a = seen .before .before .before .before .before .before .before .before .before .before .before .before .before .before .args in
@@ -66,8 +69,9 @@ unit-lies seen e =
     let shut = some .before .before in
     let start = shut .before .before .before .before .before .before in
     let a = start .args in
-    let w = unit-within (rowBytes (a .row .now)) (layoutOf (a .edition)) (a .s .now) (a .c) _ _ (shut .close .ensures) (some .if1 .left)
-    (apart .if2 .left) (lies inside) (sym (seen .judge-by .ensures) ∙ e) in
+    let judge = judgeIn (rowBytes (a .row .now)) (layoutOf (a .edition)) false in
+    let w = unit-within judge (a .s .now) (a .c) _ _ (shut .close .ensures) (some .if1 .left) (apart .if2 .left) (lies inside)
+    (in-keeps (rowBytes (a .row .now)) (layoutOf (a .edition)) false) (sym (seen .judge-by .ensures) ∙ e) in
     (w .0, omega (arith, w .1, start .good .1 .1 .1 .0 .1))
 
 close-requires : tie.Need-close-requires
@@ -79,7 +83,7 @@ refused-requires c κs = search needs
 returns : tie.Need-returns
 returns c =
     let shut = c .before .before .before in
-    refuses _ _ _ _ _ _ (c .refused .result) (c .refused .ensures) (at-end _ _ _ _ _ _ (shut .close .ensures) (c .before .if1 .taken))
+    refuses _ _ _ _ _ (c .refused .result) (c .refused .ensures) (at-end _ _ _ _ _ (shut .close .ensures) (c .before .if1 .taken))
 
 refused-requires-2 : tie.Need-refused-requires-2
 refused-requires-2 c κs = search needs
@@ -88,8 +92,8 @@ returns-2 : tie.Need-returns-2
 returns-2 c =
     let some = c .before .before .before in
     let shut = some .before .before in
-    refuses _ _ _ _ _ _ (c .refused2 .result) (c .refused2 .ensures)
-    (at-incomplete _ _ _ _ _ _ (shut .close .ensures) (some .if1 .left) (c .before .if2 .taken))
+    refuses _ _ _ _ _ (c .refused2 .result) (c .refused2 .ensures)
+    (at-incomplete _ _ _ _ _ (shut .close .ensures) (some .if1 .left) (c .before .if2 .taken))
 
 is-inside-requires : tie.Need-is-inside-requires
 is-inside-requires c κs = search needs
@@ -103,21 +107,21 @@ returns-3 c =
     let apart = asked .before in
     let some = apart .before .before in
     let shut = some .before .before in
-    refuses _ _ _ _ _ _ (c .refused3 .result) (c .refused3 .ensures)
-    (outside _ _ _ _ _ _ (shut .close .ensures) (some .if1 .left) (apart .if2 .left)
+    refuses _ _ _ _ _ (c .refused3 .result) (c .refused3 .ensures)
+    (outside _ _ _ _ _ (shut .close .ensures) (some .if1 .left) (apart .if2 .left)
     (sym (asked .is-inside .ensures) ∙ not-true (asked .is-inside .result) (c .before .if3 .taken)))
 
-sub-judge : tie.Need-sub-judge-by
-sub-judge c = omega (arith, part c)
+sub-judge-by : tie.Need-sub-judge-by
+sub-judge-by c = omega (arith, part c)
 
-part-judge-start : tie.Need-part-judge-by-start
-part-judge-start c = omega (arith, part c)
+part-judge-by-start : tie.Need-part-judge-by-start
+part-judge-by-start c = omega (arith, part c)
 
-part-judge-end : tie.Need-part-judge-by-end
-part-judge-end c = omega (arith, part c)
+part-judge-by-end : tie.Need-part-judge-by-end
+part-judge-by-end c = omega (arith, part c)
 
-judge-requires : tie.Need-judge-by-requires
-judge-requires c κs = search needs
+judge-by-requires : tie.Need-judge-by-requires
+judge-by-requires c κs = search needs
 
 enum-known-number : tie.Need-enum-known-number
 enum-known-number c = search needs
@@ -142,7 +146,8 @@ before : (ranked : tie.After-rank-before) →
 before ranked =
     let shut = ranked .before .before .before .before .before .before .before .before .before .before .before .before in
     let a = shut .before .before .before .before .before .before .args in
-    ranked .rank-before .ensures (leaves (rowBytes (a .row .now)) (layoutOf (a .edition)) (a .s .now) (a .c) _ _ (shut .close .ensures))
+    let judge = judgeIn (rowBytes (a .row .now)) (layoutOf (a .edition)) false in
+    ap suc (ranked .rank-before .ensures) ∙ before-is (a .c) _ (leaves judge (a .s .now) (a .c) _ _ (shut .close .ensures))
 
 has-room-requires : tie.Need-has-room-requires
 has-room-requires c κs = search needs
@@ -159,8 +164,8 @@ returns-4 c =
     let apart = inside .before .before in
     let some = apart .before .before in
     let shut = some .before .before in
-    refuses _ _ _ _ _ _ (c .refused5 .result) (c .refused5 .ensures)
-    (no-room _ _ _ _ _ _ (shut .close .ensures) (some .if1 .left) (apart .if2 .left) (lies inside)
+    refuses _ _ _ _ _ (c .refused5 .result) (c .refused5 .ensures)
+    (no-room _ _ _ _ _ (shut .close .ensures) (some .if1 .left) (apart .if2 .left) (lies inside)
     (sym (seen .judge-by .ensures) ∙ ranked .before .before .id .given .1) _ (before ranked)
     (sym (asked .has-room .ensures) ∙ not-true (asked .has-room .result) (c .before .if4 .taken)))
 
@@ -190,10 +195,12 @@ fitted roomy =
     let shut = some .before .before in
     let start = shut .before .before .before .before .before .before in
     let j = sym (seen .judge-by .ensures) ∙ ranked .before .before .id .given .1 in
+    let a = start .args in
+    let judge = judgeIn (rowBytes (a .row .now)) (layoutOf (a .edition)) false in
     let room = sym (asked .has-room .ensures) ∙ not-false (asked .has-room .result) (roomy .if4 .left) in (
-      following _ _ _ _ _ _ (shut .close .ensures) (some .if1 .left) (apart .if2 .left) (lies inside) j _ (before ranked) room
+      following judge (a .s .now) (a .c) _ _ (shut .close .ensures) (some .if1 .left) (apart .if2 .left) (lies inside) j _ (before ranked) room
           (omega (arith, start .good .1 .1 .1 .0 .1)),
-      slots _ _ _ _ _ _ (shut .close .ensures) (some .if1 .left) (apart .if2 .left) (lies inside) j _ (before ranked) room .1,
+      slots judge (a .s .now) (a .c) _ _ (shut .close .ensures) (some .if1 .left) (apart .if2 .left) (lies inside) j _ (before ranked) room .1,
     )
 
 add-depth : tie.Need-add-depth
@@ -212,8 +219,8 @@ returns-5 c =
     let apart = inside .before .before in
     let some = apart .before .before in
     let shut = some .before .before in
-    refuses _ _ _ _ _ _ (c .refused4 .result) (c .refused4 .ensures)
-    (inside-fault _ _ _ _ _ _ (shut .close .ensures) (some .if1 .left) (apart .if2 .left) (lies inside)
+    refuses _ _ _ _ _ (c .refused4 .result) (c .refused4 .ensures)
+    (inside-fault _ _ _ _ _ (shut .close .ensures) (some .if1 .left) (apart .if2 .left) (lies inside)
     (sym (seen .judge-by .ensures) ∙ c .before .before .number .given .1))
 
 returns-6 : tie.Need-returns-6
@@ -232,8 +239,8 @@ returns-6 c =
     let count = shut .close .result .count in
     let deep : count + 1 ≡ suc count = omega arith in (
       ap outcomeReply (c .enter .ensures)
-          ∙ enters-found _ _ _ _ _ _ (shut .close .ensures) (some .if1 .left) (apart .if2 .left) (lies inside) j _ (before ranked)
-          room _ _ deep (c .before .next-rank .ensures (fitted roomy .0)),
+          ∙ enters-found _ _ _ _ _ (shut .close .ensures) (some .if1 .left) (apart .if2 .left) (lies inside) j _ (before ranked)
+          room _ _ deep (c .before .next-rank .ensures ∙ from-is _ _ _ (fitted roomy .0)),
       λ some. absurd (some (ap (λ (r : Outcome). r .number) (c .enter .ensures))),
     )
 
@@ -249,10 +256,10 @@ advance-spec =
     is-inside-requires
     refused-requires-3
     returns-3
-    sub-judge
-    part-judge-start
-    part-judge-end
-    judge-requires
+    sub-judge-by
+    part-judge-by-start
+    part-judge-by-end
+    judge-by-requires
     enum-known-number
     add-broken
     refused-requires-4

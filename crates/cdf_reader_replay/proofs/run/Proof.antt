@@ -119,7 +119,7 @@ loop-again c =
     let inv = turn .loop .inv in (
       on (a .s .now) (a .calls .now) (a .log .now) (inv .0) (going .loop-test .taken)
           (sym (code .is-known .ensures) ∙ not-false (code .is-known .result) (call .before .if1 .left)) _ (made .turn .result)
-          (part .part-of .result) (rw (call .call-by .ensures) at (made .turn .ensures .0)) (made .turn .ensures .1) (part .part-of .ensures)
+          _ (rw (call .call-by .ensures) at (made .turn .ensures .0)) (made .turn .ensures .1) (part .part-of .ensures)
           (wrote .write-entry .ensures),
       inv .1,
     )

@@ -48,7 +48,7 @@ returns : tie.Need-returns
 returns c =
     let start = c .before .before in
     let a = start .args in
-    sets-eq (entryOf (toldOf (a .o) (a .part))) (a .tail .now) 0 (start .pre)
+    sets-eq (entryOf (toldOf (a .o) (record { start = a .part .start; size = a .part .size }))) (a .tail .now) 0 (start .pre)
 
 pub write-entry-spec : {M : Type 1} → statement M
 write-entry-spec =

@@ -9,8 +9,8 @@ use Rattle.cdf_reader_step_numbers.proofs.step_at.Tie as tie
 place-from-requires : tie.Need-place-from-requires
 place-from-requires c κs = search needs
 
-cursor-of-requires : tie.Need-cursor-of-requires
-cursor-of-requires c κs = search needs
+cursor-requires : tie.Need-cursor-requires
+cursor-requires c κs = search needs
 
 turn-requires : tie.Need-turn-requires
 turn-requires c κs = search needs
@@ -24,7 +24,7 @@ returns c =
     let same = turned .before in
     let read = same .before in
     let a = read .before .before .before .args in
-    refused (a .s .now) (a .place .now) _ (same .cursor-of .ensures ∙ ap cursorOf (read .place-from .ensures))
+    refused (a .s .now) (a .place .now) _ (same .cursor .ensures ∙ ap cursorOf (read .place-from .ensures))
     (turned .turn .result) (turned .turn .ensures) (c .before .before .if1 .taken) _ (c .refuse .ensures)
 
 enter-requires : tie.Need-enter-requires
@@ -40,7 +40,7 @@ returns-2 c =
     let same = turned .before in
     let read = same .before in
     let a = read .before .before .before .args in
-    handed (a .s .now) (a .place .now) _ (same .cursor-of .ensures ∙ ap cursorOf (read .place-from .ensures))
+    handed (a .s .now) (a .place .now) _ (same .cursor .ensures ∙ ap cursorOf (read .place-from .ensures))
     (turned .turn .result) (turned .turn .ensures) (passed .if1 .left) _ _ (c .before .before .enter .ensures) (c .hand .ensures)
 
 pub step-at-spec : {M : Type 1} → statement M
@@ -48,7 +48,7 @@ step-at-spec =
     tie.close
     (tie.spec
     place-from-requires
-    cursor-of-requires
+    cursor-requires
     turn-requires
     refuse-requires
     returns

@@ -2,7 +2,7 @@
 -- `some` past the test that a unit is left open, `apart` past the test that it ends later, `inside` past the test of the part, `seen` past
 -- the judge, `ranked` past the rank before, and `roomy` past the test of room.
 use Prim.Native.Nat.{ℕ, suc, _+_, _≤_, _<_}
-use mathlib.Core.Path.{_≡_, sym, _∙_}
+use mathlib.Core.Path.{_≡_, sym, ap, _∙_}
 use mathlib.Core.Bool.{true, false}
 use native.Mathlib.Omega.{arith}
 use borrow.Author.Needs.{needs}
@@ -10,11 +10,13 @@ use borrow.Author.Tests.{not-true, not-false}
 use lib.ListN.{length}
 use Rattle.cdf_unit_prefix.specs.Layout.{layoutOf}
 use Rattle.cdf_unit_data.specs.Data.{nameBytes}
+use Rattle.cdf_unit_judge.specs.Judge.{judgeOf}
 use Rattle.cdf_unit_judge.specs.declared.Judged.the-variants.{Fault, Found}
+use Rattle.cdf_unit_judge.proofs.Keeping.{in-keeps}
 use Rattle.cdf_unit_judge.proofs.Faults.{told}
 use Rattle.cdf_reader_cursor.specs.Outcomes.{cursorPlace}
 use Rattle.cdf_reader_advance.specs.Advancing.{isInside, rankOn}
-use Rattle.cdf_reader_advance.specs.Following.{Following}
+use Rattle.cdf_reader_advance.proofs.Standing.{Following, before-is, from-is}
 use Rattle.cdf_reader_advance.proofs.Stepped.{leaves, at-end, at-incomplete, outside, inside-fault, no-room, following, slots}
 use Rattle.cdf_reader_advance.proofs.Stepped.{enters-found, within, unit-within, fault-within}
 use Rattle.cdf_reader_turn.proofs.Stopping.{stops}
@@ -37,7 +39,7 @@ part inside =
     let some = apart .before .before in
     let shut = some .before .before in
     let a = shut .before .before .before .before .before .before .args in
-    let w = within nameBytes (layoutOf (a .edition)) (a .s .now) (a .c) _ _ (shut .close .ensures) (some .if1 .left) (apart .if2 .left) (lies inside) in
+    let w = within (judgeOf (layoutOf (a .edition)) false) (a .s .now) (a .c) _ _ (shut .close .ensures) (some .if1 .left) (apart .if2 .left) (lies inside) in
     (w .1, w .2)
 
 -- A fault's offset lies in the bytes, and so does the unit that was found: its bounds are numbers that a field can hold.
@@ -50,8 +52,8 @@ fault-lies seen e =
     let some = apart .before .before in
     let shut = some .before .before in
     let a = shut .before .before .before .before .before .before .args in
-    fault-within nameBytes (layoutOf (a .edition)) (a .s .now) (a .c) _ _ (shut .close .ensures) (some .if1 .left) (apart .if2 .left) (lies inside)
-    (sym (seen .judge .ensures) ∙ e)
+    fault-within (judgeOf (layoutOf (a .edition)) false) (a .s .now) (a .c) _ _ (shut .close .ensures) (some .if1 .left) (apart .if2 .left) (lies inside)
+    (in-keeps nameBytes (layoutOf (a .edition)) false) (sym (seen .judge .ensures) ∙ e)
 
 unit-lies : (seen : tie.After-judge) {id action own len state : ℕ} → seen .judge .result ≡ Found id action own len state →
     let a = seen .before .before .before .before .before .before .before .before .before .before .before .before .before .before .args in
@@ -63,8 +65,8 @@ unit-lies seen e =
     let shut = some .before .before in
     let start = shut .before .before .before .before .before .before in
     let a = start .args in
-    let w = unit-within nameBytes (layoutOf (a .edition)) (a .s .now) (a .c) _ _ (shut .close .ensures) (some .if1 .left) (apart .if2 .left) (lies inside)
-    (sym (seen .judge .ensures) ∙ e) in
+    let w = unit-within (judgeOf (layoutOf (a .edition)) false) (a .s .now) (a .c) _ _ (shut .close .ensures) (some .if1 .left) (apart .if2 .left) (lies inside)
+    (in-keeps nameBytes (layoutOf (a .edition)) false) (sym (seen .judge .ensures) ∙ e) in
     (w .0, omega (arith, w .1, start .good .1 .1 .0 .1))
 
 close-requires : tie.Need-close-requires
@@ -76,7 +78,7 @@ stopped-requires c κs = search needs
 returns : tie.Need-returns
 returns c =
     let shut = c .before .before .before in
-    stops _ _ _ _ _ (c .stopped .result) (c .stopped .ensures) (λ z. omega arith) (at-end nameBytes _ _ _ _ _ (shut .close .ensures) (c .before .if1 .taken))
+    stops _ _ _ _ _ (c .stopped .result) (c .stopped .ensures) (λ z. omega arith) (at-end _ _ _ _ _ (shut .close .ensures) (c .before .if1 .taken))
 
 stopped-requires-2 : tie.Need-stopped-requires-2
 stopped-requires-2 c κs = search needs
@@ -86,7 +88,7 @@ returns-2 c =
     let some = c .before .before .before in
     let shut = some .before .before in
     stops _ _ _ _ _ (c .stopped2 .result) (c .stopped2 .ensures) (λ z. omega arith)
-    (at-incomplete nameBytes _ _ _ _ _ (shut .close .ensures) (some .if1 .left) (c .before .if2 .taken))
+    (at-incomplete _ _ _ _ _ (shut .close .ensures) (some .if1 .left) (c .before .if2 .taken))
 
 is-inside-requires : tie.Need-is-inside-requires
 is-inside-requires c κs = search needs
@@ -101,7 +103,7 @@ returns-3 c =
     let some = apart .before .before in
     let shut = some .before .before in
     stops _ _ _ _ _ (c .stopped3 .result) (c .stopped3 .ensures) (λ z. omega arith)
-    (outside nameBytes _ _ _ _ _ (shut .close .ensures) (some .if1 .left) (apart .if2 .left)
+    (outside _ _ _ _ _ (shut .close .ensures) (some .if1 .left) (apart .if2 .left)
     (sym (asked .is-inside .ensures) ∙ not-true (asked .is-inside .result) (c .before .if3 .taken)))
 
 sub-judge : tie.Need-sub-judge
@@ -139,7 +141,8 @@ before : (ranked : tie.After-rank-before) →
 before ranked =
     let shut = ranked .before .before .before .before .before .before .before .before .before .before .before .before in
     let a = shut .before .before .before .before .before .before .args in
-    ranked .rank-before .ensures (leaves nameBytes (layoutOf (a .edition)) (a .s .now) (a .c) _ _ (shut .close .ensures))
+    let judge = judgeOf (layoutOf (a .edition)) false in
+    ap suc (ranked .rank-before .ensures) ∙ before-is (a .c) _ (leaves judge (a .s .now) (a .c) _ _ (shut .close .ensures))
 
 has-room-requires : tie.Need-has-room-requires
 has-room-requires c κs = search needs
@@ -157,7 +160,7 @@ returns-4 c =
     let some = apart .before .before in
     let shut = some .before .before in
     stops _ _ _ _ _ (c .stopped5 .result) (c .stopped5 .ensures) (λ z. omega arith)
-    (no-room nameBytes _ _ _ _ _ (shut .close .ensures) (some .if1 .left) (apart .if2 .left) (lies inside)
+    (no-room _ _ _ _ _ (shut .close .ensures) (some .if1 .left) (apart .if2 .left) (lies inside)
     (sym (seen .judge .ensures) ∙ ranked .before .before .id .given .1) _ (before ranked)
     (sym (asked .has-room .ensures) ∙ not-true (asked .has-room .result) (c .before .if4 .taken)))
 
@@ -187,10 +190,12 @@ fitted roomy =
     let shut = some .before .before in
     let start = shut .before .before .before .before .before .before in
     let j = sym (seen .judge .ensures) ∙ ranked .before .before .id .given .1 in
+    let a = start .args in
+    let judge = judgeOf (layoutOf (a .edition)) false in
     let room = sym (asked .has-room .ensures) ∙ not-false (asked .has-room .result) (roomy .if4 .left) in (
-      following nameBytes _ _ _ _ _ (shut .close .ensures) (some .if1 .left) (apart .if2 .left) (lies inside) j _ (before ranked) room
+      following judge (a .s .now) (a .c) _ _ (shut .close .ensures) (some .if1 .left) (apart .if2 .left) (lies inside) j _ (before ranked) room
           (omega (arith, start .good .1 .1 .0 .1)),
-      slots nameBytes _ _ _ _ _ (shut .close .ensures) (some .if1 .left) (apart .if2 .left) (lies inside) j _ (before ranked) room .1,
+      slots judge (a .s .now) (a .c) _ _ (shut .close .ensures) (some .if1 .left) (apart .if2 .left) (lies inside) j _ (before ranked) room .1,
     )
 
 add-depth : tie.Need-add-depth
@@ -210,7 +215,7 @@ returns-5 c =
     let j = sym (seen .judge .ensures) ∙ c .before .before .number .given .1 in
     let low = told (layoutOf (a .edition)) false _ _ j .low in
     stops _ _ _ _ _ (c .stopped4 .result) (c .stopped4 .ensures) (λ z. omega (arith, low, z))
-    (inside-fault nameBytes _ _ _ _ _ (shut .close .ensures) (some .if1 .left) (apart .if2 .left) (lies inside) j)
+    (inside-fault _ _ _ _ _ (shut .close .ensures) (some .if1 .left) (apart .if2 .left) (lies inside) j)
 
 returns-6 : tie.Need-returns-6
 returns-6 c =
@@ -226,8 +231,8 @@ returns-6 c =
     let room = sym (asked .has-room .ensures) ∙ not-false (asked .has-room .result) (roomy .if4 .left) in
     let count = shut .close .result .count in
     let deep : count + 1 ≡ suc count = omega arith in
-    enters-found nameBytes _ _ _ _ _ (shut .close .ensures) (some .if1 .left) (apart .if2 .left) (lies inside) j _ (before ranked) room _ _ deep
-    (c .next-rank .ensures (fitted roomy .0))
+    enters-found _ _ _ _ _ (shut .close .ensures) (some .if1 .left) (apart .if2 .left) (lies inside) j _ (before ranked) room _ _ deep
+    (c .next-rank .ensures ∙ from-is _ _ _ (fitted roomy .0))
 
 pub turn-spec : {M : Type 1} → statement M
 turn-spec =

@@ -12,6 +12,9 @@ stopped-requires c κs = search needs
 returns : tie.Need-returns
 returns c = rw (c .stopped .ensures) (none-open _ _ _ (c .before .if1 .taken))
 
+cursor-requires : tie.Need-cursor-requires
+cursor-requires c κs = search needs
+
 is-fit-requires : tie.Need-is-fit-requires
 is-fit-requires c κs = search needs
 
@@ -21,12 +24,15 @@ stopped-requires-2 c κs = search needs
 returns-2 : tie.Need-returns-2
 returns-2 c =
     let fit = c .before .before in
+    let same = fit .before in
     rw (c .stopped2 .ensures)
-    (no-fit _ _ _ (fit .before .if1 .left) (sym (fit .is-fit .ensures) ∙ not-true (fit .is-fit .result) (c .before .if2 .taken)))
+    (no-fit _ _ _ (same .before .if1 .left)
+    (rw (same .cursor .ensures) at (sym (fit .is-fit .ensures) ∙ not-true (fit .is-fit .result) (c .before .if2 .taken))))
 
 run-requires : tie.Need-run-requires
 run-requires c κs =
-    let fit = c .before .before in sym (fit .is-fit .ensures) ∙ not-false (fit .is-fit .result) (c .before .if2 .left)
+    let fit = c .before .before in
+    rw (fit .before .cursor .ensures) at (sym (fit .is-fit .ensures) ∙ not-false (fit .is-fit .result) (c .before .if2 .left))
 
 same-length : tie.Need-same-length
 same-length c = search needs
@@ -40,6 +46,7 @@ fill-spec =
     (tie.spec
     stopped-requires
     returns
+    cursor-requires
     is-fit-requires
     stopped-requires-2
     returns-2

@@ -2,20 +2,23 @@
 -- `passed` the admission, `prefixed` the prefix's length.
 use Prim.Native.Nat.{_≤_}
 use mathlib.Core.Path.{sym, _∙_}
+use mathlib.Core.Bool.{false}
 use native.Mathlib.Omega.{arith}
 use borrow.Author.Needs.{needs}
 use lib.ListN.{length}
 use Rattle.cdf_unit_table.proofs.Rows.{admits-nested}
+use Rattle.cdf_unit_table.specs.States.{admits}
 use Rattle.cdf_unit_prefix.specs.Layout.{layoutOf}
-use Rattle.cdf_unit_judge.proofs.Stages.{bounds, stopped, refused, admitted}
+use Rattle.cdf_unit_judge.proofs.Stages.{bounds, stopped, refused, admitted, in-is}
 use Rattle.cdf_unit_judge.proofs.judge.Statement.{statement}
 use Rattle.cdf_unit_judge.proofs.judge.Tie as tie
 
 returns : tie.Need-returns
 returns c =
     let told = c .before .before .before in
-    refused _ _ _ _ (told .before .before .head .ensures) _ _ (told .id .given .1) _
+    refused _ _ _ _ (told .before .before .head .ensures) _ (admits false _) (told .id .given .1) _
     (c .before .state-after .ensures ∙ sym (admits-nested _ _)) (c .if1 .taken)
+    ∙ in-is _ _ _ _ _
 
 -- The bytes after the prefix are there.
 lies : (c : tie.After-prefix) →
@@ -29,7 +32,7 @@ lies c =
     omega (arith, fit, c .prefix .ensures .0)
 
 returns-2 : tie.Need-returns-2
-returns-2 c = stopped _ _ _ _ (c .before .before .before .head .ensures) _ _ (c .before .n .given .1)
+returns-2 c = stopped _ _ _ _ (c .before .before .before .head .ensures) _ (admits false _) (c .before .n .given .1) ∙ in-is _ _ _ _ _
 
 returns-3 : tie.Need-returns-3
 returns-3 c =
@@ -37,8 +40,9 @@ returns-3 c =
     let passed = prefixed .before in
     let told = passed .before .before .before in
     c .judge-admitted .ensures
-    ∙ admitted _ _ _ _ (told .before .before .head .ensures) _ _ (told .id .given .1) _
+    ∙ admitted _ _ _ _ (told .before .before .head .ensures) _ (admits false _) (told .id .given .1) _
     (passed .before .state-after .ensures ∙ sym (admits-nested _ _)) (passed .if1 .left) _ (prefixed .prefix .ensures .0)
+    ∙ in-is _ _ _ _ _
 
 pub judge-spec : {M : Type 1} → statement M
 judge-spec =

@@ -2,22 +2,25 @@
 -- `passed` the admission, `prefixed` the prefix's length.
 use Prim.Native.Nat.{_≤_}
 use mathlib.Core.Path.{sym, ap, _∙_}
+use mathlib.Core.Bool.{false}
 use native.Mathlib.Omega.{arith}
 use borrow.Author.Needs.{needs}
 use lib.ListN.{length, length-take, length-drop}
 use Rattle.cdf_unit_table.proofs.Rows.{admits-nested}
+use Rattle.cdf_unit_table.specs.States.{admits}
 use Rattle.cdf_unit_prefix.specs.Layout.{layoutOf}
 use Rattle.cdf_unit_judge.specs.Judge.{foundBy}
 use Rattle.cdf_unit_judge.proofs.Placed.{short}
-use Rattle.cdf_unit_judge.proofs.Stages.{bounds, stopped, refused, admitted}
+use Rattle.cdf_unit_judge.proofs.Stages.{bounds, stopped, refused, admitted, in-is}
 use Rattle.cdf_unit_judge.proofs.judge_by.Statement.{statement}
 use Rattle.cdf_unit_judge.proofs.judge_by.Tie as tie
 
 returns : tie.Need-returns
 returns c =
     let told = c .before .before .before in
-    refused _ _ _ _ (told .before .before .head .ensures) _ _ (told .header2 .given .1) _
+    refused _ _ _ _ (told .before .before .head .ensures) _ (admits false _) (told .header2 .given .1) _
     (c .before .state-after .ensures ∙ sym (admits-nested _ _)) (c .if1 .taken)
+    ∙ in-is _ _ _ _ _
 
 -- The bytes after the prefix are there.
 lies : (c : tie.After-prefix) →
@@ -34,7 +37,7 @@ found-requires : tie.Need-found-requires
 found-requires c κs = short _ _ _ _ _ (c .judge-body-by .ensures) (simp (length-take, length-drop) (omega arith))
 
 returns-2 : tie.Need-returns-2
-returns-2 c = stopped _ _ _ _ (c .before .before .before .head .ensures) _ _ (c .before .header .given .1)
+returns-2 c = stopped _ _ _ _ (c .before .before .before .head .ensures) _ (admits false _) (c .before .header .given .1) ∙ in-is _ _ _ _ _
 
 returns-3 : tie.Need-returns-3
 returns-3 c =
@@ -42,8 +45,9 @@ returns-3 c =
     let passed = prefixed .before in
     let told = passed .before .before .before in
     c .found .ensures ∙ ap (foundBy _ _ _ _ _) (c .before .judge-body-by .ensures)
-    ∙ admitted _ _ _ _ (told .before .before .head .ensures) _ _ (told .header2 .given .1) _
+    ∙ admitted _ _ _ _ (told .before .before .head .ensures) _ (admits false _) (told .header2 .given .1) _
     (passed .before .state-after .ensures ∙ sym (admits-nested _ _)) (passed .if1 .left) _ (prefixed .prefix .ensures .0)
+    ∙ in-is _ _ _ _ _
 
 pub judge-by-spec : {M : Type 1} → statement M
 judge-by-spec =

@@ -1,9 +1,11 @@
 -- Each return by the law of its stage. A place of the code is named by what was just learnt there: `told` the prefix's fields,
 -- `kind` the root's kind, `acts` its action.
 use mathlib.Core.Path.{sym, _∙_}
+use mathlib.Core.Bool.{true}
 use borrow.Author.Needs.{needs}
 use borrow.Author.Tests.{not-true, not-false}
-use Rattle.cdf_unit_judge.proofs.Stages.{stopped, root-other, root-acts, root-found}
+use Rattle.cdf_unit_table.specs.States.{admits}
+use Rattle.cdf_unit_judge.proofs.Stages.{stopped, in-is, root-other, root-acts, root-found}
 use Rattle.cdf_unit_judge.proofs.judge_root.Statement.{statement}
 use Rattle.cdf_unit_judge.proofs.judge_root.Tie as tie
 
@@ -40,7 +42,7 @@ first-state-requires : tie.Need-first-state-requires
 first-state-requires c κs = search needs
 
 returns-3 : tie.Need-returns-3
-returns-3 c = stopped _ _ _ _ (c .before .before .before .head .ensures) _ _ (c .before .n .given .1)
+returns-3 c = stopped _ _ _ _ (c .before .before .before .head .ensures) _ (admits true 0) (c .before .n .given .1) ∙ in-is _ _ _ _ _
 
 returns-4 : tie.Need-returns-4
 returns-4 c =

@@ -1,7 +1,7 @@
--- The test of the place's parts.
+-- The test of the cursor's parts.
 use borrow.Author.Needs.{needs}
-use Rattle.cdf_reader_units.proofs.is_fit.Statement.{statement}
-use Rattle.cdf_reader_units.proofs.is_fit.Tie as tie
+use Rattle.cdf_reader_step.proofs.is_fit.Statement.{statement}
+use Rattle.cdf_reader_step.proofs.is_fit.Tie as tie
 
 fits-requires : tie.Need-fits-requires
 fits-requires c κs = search needs
