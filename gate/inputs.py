@@ -106,6 +106,24 @@ EXPLAINED = {
 }
 
 
+KINDS = ["EDMM stream", "function call", "parameter", "E/R data group", "template", "temporary key", "template key", "field", "relation",
+         "ordered relation", "entity key", "relation key", "file data group", "line"]
+TO_RELATION = make.unit(12, 0, number(2))
+# What is read by the table of states beside K1 to K12 and the samples: starts that are refused, and rows that printed tables have wrong.
+TABLED = {
+    "root-of-no-kind": changed(K1, 5, 15),
+    "root-with-an-action": changed(K1, 4, 1),
+    "no-root": EXPLAINED["no-root"],
+    "no-such-kind": EXPLAINED["no-such-kind"],
+    "ordered-relation-to-a-relation": people(make.unit(10, 1, number(1), number(1), TO_RELATION, TO_RELATION), with_key(1, "Ek")),
+    "ordered-relations": people(*[make.unit(10, 1, number(1), number(at), end(1), end(2)) for at in (1, 2)]),
+    "file-behind-a-call": make.unit(1, 0, *[make.unit(2, 0, make.name("LOAD")), file_group(b"x")] * 2),
+    "parameter-behind-a-group": make.unit(1, 0, make.unit(2, 0, make.name("LOAD")), file_group(b"x"), make.unit(3, 0, make.name("A"))),
+    "third-end": people(make.unit(9, 1, number(1), end(1), end(2), end(3))),
+    "second-key-of-an-entity": people(make.unit(9, 1, number(1), make.unit(11, 0, make.name("PERSON"), make.key(1), make.key("x")), end(2))),
+}
+
+
 def found(which, start, value):
     return f"Found in the {which} file, {which}.cdf, from byte {start}: '{value}'\n"
 

@@ -1,6 +1,6 @@
 /* The proved library for Common Data Format streams: the check, why it refuses a stream, the lookup of a value in two, the rescue of a
- * broken E/R data group, the reader, many units in a call and a run of the reader's calls, and by cdf_build.h the builder and the listing.
- * The numbers that they share are in cdf_numbers.h.
+ * broken E/R data group, the reader, many units in a call and a run of the reader's calls; by cdf_build.h the builder and the listing, and by
+ * cdf_table_reader.h a reader that is driven by a table. The numbers that they share are in cdf_numbers.h.
  *
  * Build target/libcdf.a with ./library, include this file and link the archive. It is for x86-64 Linux, and needs only memcpy and memset,
  * which every C library has.
@@ -18,6 +18,7 @@
 
 #include "cdf_build.h" /* the builder and the listing */
 #include "cdf_numbers.h"
+#include "cdf_table_reader.h" /* the reader that is driven by a table */
 
 #ifdef __cplusplus
 extern "C" {
@@ -83,40 +84,10 @@ uint64_t cdf_lookup(const uint8_t *first, size_t first_length, const uint8_t *se
  * judgements in all for n of them: hours at 16 MB. Set a bound on bytes from strangers. What was measured stands in docs/bench/README.md. */
 uint64_t cdf_rescue(const uint8_t *stream, size_t length, uint8_t *out, size_t out_length, uint64_t answer[CDF_RESCUE_NUMBERS]);
 
-/* The reader keeps nothing between calls. All it knows is in a place, 25 numbers that the caller holds; copy it to come back to it.
- * Fill it by cdf_first. A place with the count 0 is empty, whatever else it holds. What stands in the slots of units that the count does
- * not reach, their ranks too, is free: it means nothing, and after a call it may be anything.
+/* The reader keeps nothing between calls: all it knows is in a place, which the caller holds. What the numbers of a place and of an answer
+ * are stands in cdf_numbers.h.
  *
- * Every unit has a depth, 1 for the root and one more inside each unit around it, and a rank: how many units stand before it directly
- * in the same unit, so 0 for the first, and for the root. A unit that was skipped or taken counts once, with all that is in it. A place
- * tells depths by its count, and keeps ranks: a place that a caller made belongs to no bytes if six times the rank of an open unit, or of
- * the last unit, is more than the position. */
-#define CDF_PLACE_NUMBERS 25
-#define CDF_PLACE_POSITION 0    /* where reading goes on */
-#define CDF_PLACE_COUNT 1       /* how many units are open, 0 to 4 */
-#define CDF_PLACE_INNERMOST 2   /* state, start and end of the innermost open unit */
-#define CDF_PLACE_OUTER 5       /* the same of the others, from the root inwards: three times three numbers */
-#define CDF_PLACE_LAST 14       /* of the unit that was handed out last: id, action, start, own end, end */
-#define CDF_PLACE_FLAG 19       /* not 0: the last unit may still be skipped or taken; it is written as 1 or 0 */
-#define CDF_PLACE_RANKS 20      /* the ranks of the open units, slot by slot: the innermost, then the others from the root inwards */
-#define CDF_PLACE_LAST_RANK 24  /* the rank of the unit that was handed out last */
-
-/* What a call answers beside its number: 10 numbers, zeros where there is nothing to say. They are written at each call. A unit is
- * handed out by cdf_first, cdf_next and cdf_previous where they return 0; beside any other number, and by the other calls, the unit's
- * numbers are zeros, depth and rank too. */
-#define CDF_ANSWER_NUMBERS 10
-#define CDF_ANSWER_OFFSET 0         /* where a rule is broken */
-#define CDF_ANSWER_ID 1             /* the unit that is handed out: its id, */
-#define CDF_ANSWER_ACTION 2         /* its action, */
-#define CDF_ANSWER_START 3          /* where it starts, */
-#define CDF_ANSWER_OWN_END 4        /* where its own data end, and units nested in it begin, */
-#define CDF_ANSWER_END 5            /* and where it ends */
-#define CDF_ANSWER_PART_START 6     /* the part that cdf_get_stream takes: where it starts in the stream, */
-#define CDF_ANSWER_PART_LENGTH 7    /* and how many bytes it has */
-#define CDF_ANSWER_DEPTH 8          /* how deep the unit lies, 1 to 5, */
-#define CDF_ANSWER_RANK 9           /* and its rank among those directly in the same unit, from 0 on */
-
-/* FIRST: judges the root and hands it out. Refused, it writes a place of 25 zeros. 0 and 3 to 8. */
+ * FIRST: judges the root and hands it out. Refused, it writes a place of 25 zeros. 0 and 3 to 8. */
 uint64_t cdf_first(const uint8_t *stream, size_t length, uint64_t place[CDF_PLACE_NUMBERS], uint64_t answer[CDF_ANSWER_NUMBERS]);
 
 /* The other calls. With any number but 0 they leave the place as it was. CDF_ERR_NOTHING comes before CDF_ERR_UNFIT: a call that has
@@ -168,29 +139,10 @@ uint64_t cdf_abnormal_end(const uint8_t *stream, size_t length, uint64_t place[C
 uint64_t cdf_units(const uint8_t *stream, size_t length, uint64_t place[CDF_PLACE_NUMBERS], uint64_t *list, size_t list_length,
                    uint64_t answer[CDF_UNITS_NUMBERS]);
 
-/* A run of the reader's calls by their codes, one after the other, each on the place that the last one returned. A list that
- * does not begin with a start runs from the empty place, and a code that is none of these ends it. */
-#define CDF_CALL_START 1
-#define CDF_CALL_NEXT 2
-#define CDF_CALL_SKIP 3
-#define CDF_CALL_GET_STREAM 4
-#define CDF_CALL_PREVIOUS 5
-
-/* The entry of a call in the log is 11 numbers, zeros where there is nothing to say. */
-#define CDF_ENTRY_NUMBERS 11
-#define CDF_ENTRY_NUMBER 0          /* what the call returned */
-#define CDF_ENTRY_OFFSET 1
-#define CDF_ENTRY_PART_START 2
-#define CDF_ENTRY_PART_LENGTH 3
-#define CDF_ENTRY_ID 4
-#define CDF_ENTRY_ACTION 5
-#define CDF_ENTRY_START 6
-#define CDF_ENTRY_OWN_END 7
-#define CDF_ENTRY_END 8
-#define CDF_ENTRY_DEPTH 9
-#define CDF_ENTRY_RANK 10
-
-/* Writes the entries to the front of the log, whose length is counted in numbers; the rest of it stays. 12 if the log has fewer than 11
+/* A run of the reader's calls by their codes (CDF_CALL_..), one after the other, each on the place that the last one returned. A list that
+ * does not begin with a start runs from the empty place, and a code that is none of these ends it.
+ *
+ * Writes the entries to the front of the log, whose length is counted in numbers; the rest of it stays. 12 if the log has fewer than 11
  * numbers for each code, and then nothing is written to it; else 0. answer[0] is the number of entries written. */
 uint64_t cdf_replay(const uint8_t *stream, size_t length, const uint8_t *calls, size_t calls_length, uint64_t *log, size_t log_length,
                     uint64_t answer[1]);

@@ -1,5 +1,5 @@
-/* The numbers that all calls share: the version, what a call returns, and the ids, actions and states of units. cdf.h and cdf_build.h
- * include this file. */
+/* The numbers that calls share: the version, what a call returns, the ids, actions and states of units, and the places, answers, codes and
+ * log entries of readers. The other headers include this file. */
 #ifndef CDF_NUMBERS_H
 #define CDF_NUMBERS_H
 
@@ -94,6 +94,60 @@ uint64_t cdf_version(void);
 #define CDF_STATE_ENTITY_TEMPORARY 28   /* that has had its temporary key */
 #define CDF_STATE_ENTITY_KEYS 29        /* that has had template keys */
 #define CDF_STATE_ENTITY_SKIPPED 30     /* that was skipped */
+
+/* The place of a reader: 25 numbers that the caller holds; copy it to come back to it. Fill it by a start. A place with the count 0 is
+ * empty, whatever else it holds. What stands in the slots of units that the count does not reach, their ranks too, is free: it means
+ * nothing, and after a call it may be anything.
+ *
+ * Every unit has a depth, 1 for the root and one more inside each unit around it, and a rank: how many units stand before it directly
+ * in the same unit, so 0 for the first, and for the root. A unit that was skipped or taken counts once, with all that is in it. A place
+ * tells depths by its count, and keeps ranks: a place that a caller made belongs to no bytes if six times the rank of an open unit, or of
+ * the last unit, is more than the position. */
+#define CDF_PLACE_NUMBERS 25
+#define CDF_PLACE_POSITION 0    /* where reading goes on */
+#define CDF_PLACE_COUNT 1       /* how many units are open, 0 to 4 */
+#define CDF_PLACE_INNERMOST 2   /* state, start and end of the innermost open unit */
+#define CDF_PLACE_OUTER 5       /* the same of the others, from the root inwards: three times three numbers */
+#define CDF_PLACE_LAST 14       /* of the unit that was handed out last: id, action, start, own end, end */
+#define CDF_PLACE_FLAG 19       /* not 0: the last unit may still be skipped or taken; it is written as 1 or 0 */
+#define CDF_PLACE_RANKS 20      /* the ranks of the open units, slot by slot: the innermost, then the others from the root inwards */
+#define CDF_PLACE_LAST_RANK 24  /* the rank of the unit that was handed out last */
+
+/* What a call answers beside its number: 10 numbers, zeros where there is nothing to say. They are written at each call. A unit is
+ * handed out by a start, by NEXT and by PREVIOUS where they return 0; beside any other number, and by the other calls, the unit's
+ * numbers are zeros, depth and rank too. */
+#define CDF_ANSWER_NUMBERS 10
+#define CDF_ANSWER_OFFSET 0         /* where a rule is broken */
+#define CDF_ANSWER_ID 1             /* the unit that is handed out: its id, */
+#define CDF_ANSWER_ACTION 2         /* its action, */
+#define CDF_ANSWER_START 3          /* where it starts, */
+#define CDF_ANSWER_OWN_END 4        /* where its own data end, and units nested in it begin, */
+#define CDF_ANSWER_END 5            /* and where it ends */
+#define CDF_ANSWER_PART_START 6     /* the part that cdf_get_stream takes: where it starts in the stream, */
+#define CDF_ANSWER_PART_LENGTH 7    /* and how many bytes it has */
+#define CDF_ANSWER_DEPTH 8          /* how deep the unit lies, 1 to 5, */
+#define CDF_ANSWER_RANK 9           /* and its rank among those directly in the same unit, from 0 on */
+
+/* The codes of a reader's calls, for a run of them. */
+#define CDF_CALL_START 1
+#define CDF_CALL_NEXT 2
+#define CDF_CALL_SKIP 3
+#define CDF_CALL_GET_STREAM 4
+#define CDF_CALL_PREVIOUS 5
+
+/* The entry of a call in the log is 11 numbers, zeros where there is nothing to say. */
+#define CDF_ENTRY_NUMBERS 11
+#define CDF_ENTRY_NUMBER 0          /* what the call returned */
+#define CDF_ENTRY_OFFSET 1
+#define CDF_ENTRY_PART_START 2
+#define CDF_ENTRY_PART_LENGTH 3
+#define CDF_ENTRY_ID 4
+#define CDF_ENTRY_ACTION 5
+#define CDF_ENTRY_START 6
+#define CDF_ENTRY_OWN_END 7
+#define CDF_ENTRY_END 8
+#define CDF_ENTRY_DEPTH 9
+#define CDF_ENTRY_RANK 10
 
 #ifdef __cplusplus
 }

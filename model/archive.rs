@@ -7,6 +7,7 @@ use cdf_model::numbers::{
 use cdf_model::reader::Call;
 
 type ReaderCall = unsafe extern "C" fn(*const u8, usize, *mut u64, *mut u64) -> u64;
+type Replay = unsafe extern "C" fn(*const u8, usize, *const u8, usize, *mut u64, usize, *mut u64) -> u64;
 
 extern "C" {
     fn cdf_check(stream: *const u8, n: usize, answer: *mut u64) -> u64;
@@ -27,6 +28,18 @@ extern "C" {
     ) -> u64;
     fn cdf_units(stream: *const u8, n: usize, place: *mut u64, list: *mut u64, numbers: usize, answer: *mut u64)
         -> u64;
+    fn cdf_table_first(stream: *const u8, n: usize, place: *mut u64, answer: *mut u64) -> u64;
+    fn cdf_table_next(stream: *const u8, n: usize, place: *mut u64, answer: *mut u64) -> u64;
+    fn cdf_table_skip(stream: *const u8, n: usize, place: *mut u64, answer: *mut u64) -> u64;
+    fn cdf_table_replay(
+        stream: *const u8,
+        n: usize,
+        calls: *const u8,
+        ncalls: usize,
+        log: *mut u64,
+        nlog: usize,
+        answer: *mut u64,
+    ) -> u64;
     fn cdf_listing(stream: *const u8, n: usize, text: *mut u8, ntext: usize, answer: *mut u64) -> u64;
     fn cdf_explain(stream: *const u8, n: usize, answer: *mut u64) -> u64;
     fn cdf_lookup(
@@ -119,6 +132,20 @@ pub fn reader(call: Call, stream: &[u8], place: &mut ReaderNumbers) -> (u64, Ans
         Call::Previous => cdf_previous,
         Call::AbnormalEnd => cdf_abnormal_end,
     };
+    read(function, stream, place)
+}
+
+/// A call of the table reader, which has three.
+pub fn table(call: Call, stream: &[u8], place: &mut ReaderNumbers) -> (u64, AnswerNumbers) {
+    let function: ReaderCall = match call {
+        Call::First => cdf_table_first,
+        Call::Next => cdf_table_next,
+        _ => cdf_table_skip,
+    };
+    read(function, stream, place)
+}
+
+fn read(function: ReaderCall, stream: &[u8], place: &mut ReaderNumbers) -> (u64, AnswerNumbers) {
     let mut answer = [UNWRITTEN; 10];
     let number = guarded(&mut answer, |answer| {
         guarded(place, |place| unsafe { function(pointer(stream), stream.len(), place, answer) })
@@ -127,10 +154,18 @@ pub fn reader(call: Call, stream: &[u8], place: &mut ReaderNumbers) -> (u64, Ans
 }
 
 pub fn replay(stream: &[u8], calls: &[u8], log: &mut [u64]) -> (u64, u64) {
+    replay_by(cdf_replay, stream, calls, log)
+}
+
+pub fn table_replay(stream: &[u8], calls: &[u8], log: &mut [u64]) -> (u64, u64) {
+    replay_by(cdf_table_replay, stream, calls, log)
+}
+
+fn replay_by(function: Replay, stream: &[u8], calls: &[u8], log: &mut [u64]) -> (u64, u64) {
     let (nlog, log) = (log.len(), pointer_mut(log));
     answered(|answer| unsafe {
         let (codes, count) = (pointer(calls), calls.len());
-        cdf_replay(pointer(stream), stream.len(), codes, count, log, nlog, answer)
+        function(pointer(stream), stream.len(), codes, count, log, nlog, answer)
     })
 }
 

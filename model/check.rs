@@ -1,12 +1,12 @@
 //! The check, one level down for each unit that admits others, and the text of the listing program.
 
-use crate::rules::{opens, unit_at, Around, Refusal, Unit};
+use crate::rules::{is_root, opens, unit_at, Around, Refusal, Unit};
 use crate::units::{depth, list};
 use std::fmt::Write;
 
 /// How many units the stream has, or the first rule that it breaks.
 pub fn check(stream: &[u8]) -> Result<u64, Refusal> {
-    let root = unit_at(stream, 0, stream.len() as u64, Around::Root)?;
+    let root = unit_at(stream, 0, stream.len() as u64, Around::Root(&is_root))?;
     count(stream, root)
 }
 

@@ -14,6 +14,7 @@ use cdf_model::random::Random;
 use cdf_model::reader::{call, Call, Place, Reply};
 use cdf_model::rules::{complete, Handed, Refusal, Unit, LIMIT};
 use cdf_model::streams::{gone_on, Tree};
+use cdf_model::table;
 use cdf_model::units::{handed, list};
 
 fn expect(tally: &Tally, holds: bool, what: &str, stream: &[u8]) {
@@ -123,6 +124,21 @@ pub fn plain(tally: &mut Tally, stream: &[u8], codes: &[u8]) {
         place = reply.place;
     }
     tally.count("lists of calls answered as by the plain reader");
+}
+
+/// The reader that is driven by a table answers starts, NEXTs and SKIPs as the reader does, each on its own last place.
+pub fn tabled(tally: &mut Tally, stream: &[u8], codes: &[u8]) {
+    let (mut place, mut stack) = (Place::default(), Place::default());
+    for code in codes.iter().filter(|code| **code <= 3) {
+        let which = CODES[usize::from(*code) - 1];
+        let one = table::call(which, stream, &stack).reply;
+        let other = call(which, stream, &place);
+        let same =
+            (one.number, one.offset, one.handed, one.part) == (other.number, other.offset, other.handed, other.part);
+        expect(tally, same && one.place == other.place, "the reader by a table", stream);
+        (stack, place) = (one.place, other.place);
+    }
+    tally.count("lists of calls that the model answers by a table");
 }
 
 /// The bytes that a builder makes of these requests, the first of them the root.

@@ -9,7 +9,7 @@ use crate::cases::{cases, unit};
 use crate::check::{check, listing};
 use crate::explain::explain;
 use crate::header_names::{
-    action, building, call_name, code, hex, id, number, parts, place, state_number, sum, unit_parts,
+    action, building, call_name, code, hex, id, number, parts, place, state_number, sum, table_name, unit_parts,
 };
 use crate::lookup::lookup;
 use crate::lookup_samples::lookups;
@@ -21,6 +21,7 @@ use crate::random::Random;
 use crate::reader::{call, Call, Place, Reply};
 use crate::rescue::rescue;
 use crate::rescue_samples::rescues;
+use crate::table;
 
 /// The version of the numbers.
 const VERSION: u64 = 2;
@@ -119,20 +120,31 @@ fn read(lines: &mut Lines, stream: &[u8], at: &mut Place, random: &mut Random) {
     if !random.one_in(8) {
         calls.insert(0, Call::First);
     }
-    replay(lines, stream, &calls, random);
+    replay(lines, "cdf_replay", &call, stream, &calls, random);
+    // The table reader has the first three calls, and others end its run.
+    let by_table = |which, stream: &[u8], at: &Place| table::call(which, stream, at).reply;
+    replay(lines, "cdf_table_replay", &by_table, stream, &calls, random);
+    let tabled: Vec<Call> = calls.iter().copied().filter(|which| CODES[..3].contains(which)).collect();
     if random.one_in(8) {
         calls.push(Call::AbnormalEnd);
         calls.push(random.pick(&CODES));
     }
     for which in calls {
-        let reply = call(which, stream, at);
-        let owed = parts("ANSWER", &reply, ANSWER) + &left(reply.number, &reply.place);
-        lines.call(call_name(which), number(reply.number), &owed);
-        *at = reply.place;
+        step(lines, call_name(which), call(which, stream, at), at);
         if random.one_in(6) {
             many(lines, stream, at, random);
         }
     }
+    for which in tabled {
+        step(lines, &table_name(which), by_table(which, stream, at), at);
+    }
+}
+
+/// A call that is answered so, and the place that it leaves.
+fn step(lines: &mut Lines, name: &str, reply: Reply, at: &mut Place) {
+    let owed = parts("ANSWER", &reply, ANSWER) + &left(reply.number, &reply.place);
+    lines.call(name, number(reply.number), &owed);
+    *at = reply.place;
 }
 
 /// What a call leaves of its place.
@@ -186,8 +198,10 @@ fn list(lines: &mut Lines, stream: &[u8], word: &str, room: usize) {
     lines.call(&format!("cdf_listing {word}"), number(done), &format!(" {length}{}", sum(&text)));
 }
 
-/// The codes, sometimes with one that is none, in a log that is long enough or not.
-fn replay(lines: &mut Lines, stream: &[u8], calls: &[Call], random: &mut Random) {
+type Answers<'a> = &'a dyn Fn(Call, &[u8], &Place) -> Reply;
+
+/// The codes, sometimes with one that is none, in a log that is long enough or not. By either reader.
+fn replay(lines: &mut Lines, name: &str, call: Answers, stream: &[u8], calls: &[Call], random: &mut Random) {
     let mut codes: Vec<String> = calls.iter().map(|which| code(*which)).collect();
     let mut known = calls;
     if random.one_in(4) {
@@ -195,8 +209,11 @@ fn replay(lines: &mut Lines, stream: &[u8], calls: &[Call], random: &mut Random)
         codes[index] = random.pick(&[0, 6, 255]).to_string();
         known = &calls[..index];
     }
+    if name != "cdf_replay" {
+        known = &known[..known.iter().position(|which| !CODES[..3].contains(which)).unwrap_or(known.len())];
+    }
     let entries = codes.len() + 1 - random.below(3);
-    let line = format!("cdf_replay {entries} {} {}", codes.len(), codes.join(" "));
+    let line = format!("{name} {entries} {} {}", codes.len(), codes.join(" "));
     if entries < codes.len() {
         return lines.call(&line, number(12), " 0");
     }

@@ -103,6 +103,11 @@ pub fn call_name(which: Call) -> &'static str {
     }
 }
 
+/// The same of the table reader, which has the first three.
+pub fn table_name(which: Call) -> String {
+    format!("cdf_table_{}", &call_name(which)[4..])
+}
+
 pub fn code(which: Call) -> String {
     let name = if which == Call::First { "START" } else { &call_name(which)[4..] };
     format!("CDF_CALL_{}", name.to_uppercase())

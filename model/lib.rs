@@ -1,4 +1,4 @@
-//! A second implementation of document 01, and of requests a) to d), f), g) and k) of 02, in plain Rust, written from the
+//! A second implementation of document 01, and of requests a) to d), f) to h) and k) of 02, in plain Rust, written from the
 //! documents and not from the proved code.
 
 pub mod batch;
@@ -25,5 +25,6 @@ pub mod rescue_samples;
 pub mod rules;
 pub mod samples;
 pub mod streams;
+pub mod table;
 mod tree;
 pub mod units;

@@ -20,6 +20,7 @@ mod readers;
 mod rescued;
 mod rescues;
 mod safe;
+mod tables;
 mod tally;
 
 use cdf_model::batch_samples::batches;
@@ -119,6 +120,7 @@ fn round(tally: &mut Tally, places_alone: bool) {
     lookups::compare(tally, random);
     rescues::compare(tally, random);
     safe::compare(tally, &stream);
+    tables::compare(tally, &stream);
     tally.round += 1;
 }
 
@@ -159,6 +161,7 @@ fn fixed(tally: &mut Tally) {
             assert_eq!((said.number, said.handed.depth, said.handed.rank), owed, "{call:?}: {}", at.label);
             readers::compare_call(tally, call, &at.stream, &mut at.place.clone());
         }
+        tables::compare_call(tally, Call::Next, &at.stream, &mut at.place.clone());
     }
     for sample in batches() {
         let mut list = vec![u64::MAX; sample.length];

@@ -4,6 +4,8 @@
 //!                      of each; how many ids may stand there, and these
 //!   model list FILE    what the listing program writes
 //!   model levels FILE  start, depth and rank of each unit, of a refused stream of those before the fault
+//!   model states FILE  start, depth and id of each unit that the table reader hands out, and the row of what is around it before
+//!                      and after; then 'end', or number, offset, the row that counts there and the ids that it admits
 //!   model lookup FIRST SECOND TEMPLATE KEY_ID KEY FIELD
 //!                      which value counts in two files, in numbers: number, offset, which file, start and length; names
 //!                      with their count byte and keys are written as pairs of hexadecimal digits
@@ -23,9 +25,12 @@ use cdf_model::build_cases::build_cases;
 use cdf_model::build_run::BuildCase;
 use cdf_model::explain::{explain, Explanation};
 use cdf_model::lookup::{lookup, Asked, Found};
+use cdf_model::numbers::state_number;
+use cdf_model::reader::{Call, Place};
 use cdf_model::rescue::{rescue, Rescued};
+use cdf_model::rules::Handed;
 use cdf_model::units::{handed, list};
-use cdf_model::{cases, check, header, samples};
+use cdf_model::{cases, check, header, samples, table};
 use std::fs::File;
 use std::io::{self, Read, Write};
 
@@ -52,6 +57,28 @@ fn told(stream: &[u8]) -> String {
 fn levels(stream: &[u8]) -> String {
     let units = handed(&list(stream).units);
     units.iter().map(|one| written(&[one.unit.start, one.depth, one.rank]) + "\n").collect()
+}
+
+fn states(stream: &[u8]) -> String {
+    let row = |place: &Place, level: usize| place.open.get(level).map_or(0, |unit| state_number(unit.id, unit.had));
+    let (mut lines, mut place) = (String::new(), Place::default());
+    let mut reply = table::call(Call::First, stream, &place).reply;
+    while reply.number == 0 {
+        let Handed { unit, depth, .. } = reply.handed;
+        let rows = match (depth as usize).checked_sub(2) {
+            Some(around) => [row(&place, around), row(&reply.place, around)],
+            None => [0, row(&reply.place, 0)],
+        };
+        lines += &(written(&[unit.start, depth, unit.id, rows[0], rows[1]]) + "\n");
+        place = reply.place;
+        reply = table::call(Call::Next, stream, &place).reply;
+    }
+    if reply.number == 1 {
+        return lines + "end\n";
+    }
+    let around = explain(stream).open.len().checked_sub(1).map_or(0, |level| row(&place, level));
+    let admits = (1..=14).filter(|id| table::table().next[around as usize][*id as usize] != 0);
+    lines + &written(&[reply.number, reply.offset, around].into_iter().chain(admits).collect::<Vec<_>>()) + "\n"
 }
 
 /// Bytes that are written as pairs of hexadecimal digits.
@@ -94,6 +121,7 @@ fn main() -> io::Result<()> {
         ["explain", path] => told(&read(path)?) + "\n",
         ["list", path] => check::listing(&read(path)?),
         ["levels", path] => levels(&read(path)?),
+        ["states", path] => states(&read(path)?),
         ["lookup", first, second, template, key_id, key, field] => match asked(template, key_id, key, field) {
             Some(asked) => found(&read(first)?, &read(second)?, &asked) + "\n",
             None => usage(),
@@ -115,7 +143,7 @@ fn main() -> io::Result<()> {
 }
 
 fn usage() -> ! {
-    eprintln!("usage: model check FILE | explain FILE | list FILE | levels FILE | rescue FILE ROOM");
+    eprintln!("usage: model check FILE | explain FILE | list FILE | levels FILE | states FILE | rescue FILE ROOM");
     eprintln!("       model lookup FIRST SECOND TEMPLATE KEY_ID KEY FIELD");
     eprintln!("       model inputs | answers | build-inputs | build-answers | header-calls | header-answers");
     std::process::exit(2);

@@ -8,6 +8,7 @@ use crate::lookup::Found;
 use crate::reader::{call, Call, Open, Place, Reply};
 use crate::rescue::Rescued;
 use crate::rules::{Had, Handed, Unit};
+use crate::table;
 
 pub type ReaderNumbers = [u64; 25];
 pub type AnswerNumbers = [u64; 10];
@@ -196,14 +197,29 @@ pub const CODES: [Call; 5] = [Call::First, Call::Next, Call::Skip, Call::GetStre
 /// Runs a list of calls and writes the log: number, offset, part and unit of each, with its depth and rank. Gives the number, and how many
 /// entries it wrote.
 pub fn replay(stream: &[u8], codes: &[u8], log: &mut [u64]) -> (u64, u64) {
+    replay_by(&CODES, call, stream, codes, log)
+}
+
+/// The same of the table reader, which has only the first three of the calls.
+pub fn table_replay(stream: &[u8], codes: &[u8], log: &mut [u64]) -> (u64, u64) {
+    replay_by(&CODES[..3], |call, stream, place| table::call(call, stream, place).reply, stream, codes, log)
+}
+
+fn replay_by(
+    known: &[Call],
+    call: impl Fn(Call, &[u8], &Place) -> Reply,
+    stream: &[u8],
+    codes: &[u8],
+    log: &mut [u64],
+) -> (u64, u64) {
     if log.len() / ENTRY < codes.len() {
         return (12, 0);
     }
     let mut place = Place::default();
     let mut entries = 0;
     for (code, entry) in codes.iter().zip(log.chunks_exact_mut(ENTRY)) {
-        let known = usize::from(*code).checked_sub(1);
-        let Some(code) = known.and_then(|index| CODES.get(index)) else {
+        let index = usize::from(*code).checked_sub(1);
+        let Some(code) = index.and_then(|index| known.get(index)) else {
             break;
         };
         let reply = call(*code, stream, &place);

@@ -142,7 +142,7 @@ fn hand_out(mut place: Place, unit: Unit, rank: u64) -> Reply {
 }
 
 fn first(stream: &[u8]) -> Reply {
-    match unit_at(stream, 0, stream.len() as u64, Around::Root) {
+    match unit_at(stream, 0, stream.len() as u64, Around::Root(&is_root)) {
         Ok(root) => hand_out(Place::default(), root, 0),
         Err(refusal) => refuse(refusal.number, refusal.offset, Place::default()),
     }

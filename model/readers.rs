@@ -129,7 +129,7 @@ fn compare_list(tally: &mut Tally, stream: &[u8], codes: &[u8], random: &mut Ran
 }
 
 /// Room behind what is lent, which no call may write.
-const BEYOND: usize = 12;
+pub const BEYOND: usize = 12;
 
 fn compare_replay(tally: &mut Tally, stream: &[u8], codes: &[u8], random: &mut Random) {
     let mut codes = codes.to_vec();
@@ -223,6 +223,7 @@ pub fn compare(tally: &mut Tally, stream: &[u8], tree: Option<&Tree>, random: &m
         if asked && accepted.is_ok() && codes[0] == 1 {
             consistency::plain(tally, stream, &codes);
         }
+        consistency::tabled(tally, stream, &codes);
         met.extend(compare_list(tally, stream, &codes, random));
         if random.one_in(4) {
             compare_replay(tally, stream, &codes, random);

@@ -192,9 +192,9 @@ pub struct Refusal {
     pub offset: u64,
 }
 
-/// What surrounds a unit that is judged: nothing, or a unit that admits some ids now.
+/// What surrounds a unit that is judged, and which ids it admits now: nothing, or a unit.
 pub enum Around<'a> {
-    Root,
+    Root(&'a dyn Fn(u64) -> bool),
     Admits(&'a dyn Fn(u64) -> bool),
 }
 
@@ -210,7 +210,7 @@ pub fn unit_at(stream: &[u8], start: u64, end: u64, around: Around) -> Result<Un
     }
     let length = usize::from(bytes[2]) * 256 + usize::from(bytes[3]);
     let fits = match around {
-        Around::Root => length == bytes.len(),
+        Around::Root(_) => length == bytes.len(),
         Around::Admits(_) => length <= bytes.len(),
     };
     if length < PREFIX || !fits {
@@ -220,11 +220,8 @@ pub fn unit_at(stream: &[u8], start: u64, end: u64, around: Around) -> Result<Un
     let Some(kind) = kind(id) else {
         return refused(6);
     };
-    let admitted = match around {
-        Around::Root => is_root(id),
-        Around::Admits(admits) => admits(id),
-    };
-    if !admitted {
+    let (Around::Root(admits) | Around::Admits(admits)) = around;
+    if !admits(id) {
         return refused(7);
     }
     if !kind.actions.contains(&action) {

@@ -2,16 +2,18 @@
 
 use crate::readers::hex;
 use crate::tally::Tally;
-use cdf::{Action, Builder, Id, Key, Reader, Root, Which};
+use cdf::{Action, Builder, Id, Key, Reader, Root, TableReader, Which};
 use cdf_model::builder::{self, Request};
 use cdf_model::check::{check, listing};
 use cdf_model::explain::explain;
 use cdf_model::lookup::{lookup, Asked};
+use cdf_model::numbers::state_number;
 use cdf_model::random::Random;
 use cdf_model::reader::{self, Call, Place};
 use cdf_model::rescue::Rescued;
 use cdf_model::rules::{Handed, Unit};
 use cdf_model::streams::{damage_data, grow, request};
+use cdf_model::table;
 
 fn same<T: PartialEq + std::fmt::Debug>(tally: &mut Tally, what: &str, given: &dyn Fn() -> String, one: T, other: T) {
     if one != other {
@@ -56,6 +58,8 @@ pub fn compare(tally: &mut Tally, stream: &[u8]) {
     }
     read(tally, stream, random);
     build(tally, random);
+    // Behind the others, which have the random numbers that they had.
+    read_by_table(tally, stream, random);
     tally.count("streams through the Rust crate");
 }
 
@@ -124,6 +128,39 @@ fn read(tally: &mut Tally, stream: &[u8], random: &mut Random) {
                     return;
                 }
             }
+        }
+        place = owed.place;
+    }
+}
+
+/// A run of the iterator of the table reader, with skips in between, and the states after each call.
+fn read_by_table(tally: &mut Tally, stream: &[u8], random: &mut Random) {
+    let (mut reader, mut place) = (TableReader::new(stream), Place::default());
+    for index in 0..60 {
+        let given = || format!("{}, place {place:?}", hex(stream));
+        let call = match random.below(6) {
+            0 if index > 0 => Call::Skip,
+            _ if index > 0 => Call::Next,
+            _ => Call::First,
+        };
+        let owed = table::call(call, stream, &place).reply;
+        let due = match owed.number {
+            0 if call == Call::Skip => Some(Ok(Handed::default())),
+            0 => Some(Ok(owed.handed)),
+            1 => None,
+            _ => Some(Err((owed.number, owed.offset))),
+        };
+        let said = match call {
+            Call::Skip => Some(reader.skip_unit().map(|()| Handed::default())),
+            _ => reader.next().map(|unit| unit.map(|unit| of_unit(&unit))),
+        };
+        let said = said.map(|said| said.map_err(|refusal| numbers(&refusal)));
+        same(tally, "the table reader's iterator", &given, said, due);
+        let states: Vec<u64> = reader.states().iter().map(|state| state.number()).collect();
+        let open = owed.place.open.iter().map(|unit| state_number(unit.id, unit.had)).collect();
+        same(tally, "the table reader's states", &given, states, open);
+        if owed.number != 0 && call != Call::Skip {
+            return;
         }
         place = owed.place;
     }

@@ -1,12 +1,13 @@
 //! What was compared, how often, and with which numbers; and the end of a run at the first difference.
 
 use crate::batches::BATCHED;
-use crate::functions::{Function, AT_PLACES, BUILDER, CAN_GIVE, READER};
+use crate::functions::{Function, AT_PLACES, BUILDER, CAN_GIVE, READER, TABLE};
 use crate::keys::TOO_MANY;
 use crate::looked_up::LOOKED_UP;
 use crate::pointed::{Byte, BYTES};
 use crate::ranked::RANKED;
 use crate::rescued::RESCUED;
+use crate::tables::Looks;
 use cdf_model::explain::Explanation;
 use cdf_model::rules::Had;
 use cdf_model::{builder, reader};
@@ -63,6 +64,7 @@ pub struct Tally {
     rescued: [u64; RESCUED.len()],
     ranked: [u64; RANKED.len()],
     batched: [u64; BATCHED.len()],
+    pub looks: Looks,
 }
 
 impl Tally {
@@ -82,6 +84,7 @@ impl Tally {
             rescued: [0; RESCUED.len()],
             ranked: [0; RANKED.len()],
             batched: [0; BATCHED.len()],
+            looks: Looks::default(),
         }
     }
 
@@ -193,6 +196,10 @@ impl Tally {
         self.calls(BUILDER)
     }
 
+    pub fn table_calls(&self) -> u64 {
+        self.calls(TABLE)
+    }
+
     /// Ends the run: the two sides differ, or the model contradicts itself.
     pub fn differ(&self, what: &str, given: &str, one: &str, other: &str) -> ! {
         println!("\nDIFFERENCE in {what} (seed {}, round {})", self.seed, self.round);
@@ -202,8 +209,8 @@ impl Tally {
 
     /// Prints the figures. False if a number was not met that the function can give, or met that it cannot, or if a clause
     /// was never missed alone, a kind of refusal not explained, a kind of byte not named, a kind of key not refused, a kind
-    /// of lookup, of rescue or of batch not made, or a kind of rank not told. Of a run on hand-made places alone the functions that it
-    /// calls are asked, and the kinds of places, ranks and batches.
+    /// of lookup, of rescue or of batch not made, a kind of rank not told, or an entry of the table not asked. Of a run on hand-made
+    /// places alone the functions that it calls are asked, and the kinds of places, ranks and batches.
     pub fn report(&self, places_alone: bool) -> bool {
         let mut good = true;
         println!("compared:");
@@ -212,6 +219,7 @@ impl Tally {
         }
         println!("{:>12} reader calls, one by one", self.reader_calls());
         println!("{:>12} builder calls", self.builder_calls());
+        println!("{:>12} calls of the table reader, each also of the first reader", self.table_calls());
         println!("numbers met by each function:");
         for (function, ((name, can_give), met)) in CAN_GIVE.iter().zip(&self.met).enumerate() {
             if places_alone && !AT_PLACES.contains(&function) {
@@ -253,7 +261,7 @@ impl Tally {
         good &= each_met("hand-made places that fit, and their innermost unit", &TEMPORARY, &self.temporary, &[]);
         good &= each_met("lookups", &LOOKED_UP, &self.looked_up, &[]);
         good &= each_met("rescues", &RESCUED, &self.rescued, &[]);
-        good
+        good & self.looks.report()
     }
 }
 

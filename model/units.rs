@@ -2,7 +2,7 @@
 //! and what a unit has had is looked up in the list each time.
 
 use crate::check::{follows, least};
-use crate::rules::{opens, unit_at, Around, Handed, Refusal, Unit};
+use crate::rules::{is_root, opens, unit_at, Around, Handed, Refusal, Unit};
 
 pub struct List {
     pub units: Vec<Unit>,
@@ -36,7 +36,7 @@ pub fn position(units: &[Unit]) -> u64 {
 fn following(stream: &[u8], units: &[Unit]) -> Result<Option<Unit>, Refusal> {
     let position = position(units);
     if units.is_empty() {
-        return unit_at(stream, position, stream.len() as u64, Around::Root).map(Some);
+        return unit_at(stream, position, stream.len() as u64, Around::Root(&is_root)).map(Some);
     }
     let outer = |index: &usize| opens(units[*index].id);
     let closing = |index: &usize| units[*index].end == position;

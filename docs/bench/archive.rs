@@ -1,15 +1,8 @@
-//! The proved functions: those of the joined archive, a second version of them where `run` links one, and `cdf_walk`.
+//! The proved functions: those of the joined archive, a second version of them where `run` links one, and `cdf_walk`. The two readers are
+//! in `readers.rs`.
 
-/// Position; how many units are open; state, start and end of the innermost, then of the others from the root
-/// inwards; id, action, start, own end and end of the last unit; whether it may still be skipped; the ranks of the open
-/// units in the same order, and of the last unit.
-pub type Place = [u64; 25];
-pub const LAST: std::ops::Range<usize> = 14..19;
-pub const LAST_RANK: usize = 24;
-/// Offset; id, action, start, own end and end of the unit; start and length of the part; depth and rank of the unit.
-pub type Answer = [u64; 10];
-/// How many numbers a call has in the log.
-pub const ENTRY: usize = 11;
+pub use crate::readers::*;
+
 /// Offset; how many units are open; id and start of up to four, the root first; how many ids the innermost admits; up to
 /// fourteen ids, rising. Zeros beyond, and all zeros for an accepted stream.
 pub type Explanation = [u64; 25];
@@ -30,18 +23,11 @@ pub struct Question<'a> {
     pub field: &'a [u8],
 }
 
-pub trait Archive {
-    const NAME: &'static str;
+pub trait Archive: Reads {
     fn check(stream: &[u8], answer: &mut [u64; 1]) -> u64;
     fn explain(stream: &[u8], answer: &mut Explanation) -> u64;
-    fn first(stream: &[u8], place: &mut Place, answer: &mut Answer) -> u64;
-    fn next(stream: &[u8], place: &mut Place, answer: &mut Answer) -> u64;
-    fn skip(stream: &[u8], place: &mut Place, answer: &mut Answer) -> u64;
     fn get_stream(stream: &[u8], place: &mut Place, answer: &mut Answer) -> u64;
     fn previous(stream: &[u8], place: &mut Place, answer: &mut Answer) -> u64;
-    /// FIRST and NEXTs to the end, each called from C, folded.
-    fn walk(stream: &[u8]) -> u64;
-    fn replay(stream: &[u8], calls: &[u8], log: &mut [u64], answer: &mut [u64; 1]) -> u64;
     fn build_first(buffer: &mut [u8], root: u64, place: &mut BuildPlace) -> u64;
     fn build_next(buffer: &mut [u8], place: &mut BuildPlace, id: u64, action: u64, data: &[u8]) -> u64;
     fn build_finish(buffer: &[u8], place: &BuildPlace, answer: &mut [u64; 1]) -> u64;
@@ -51,27 +37,13 @@ pub trait Archive {
 }
 
 macro_rules! archive {
-    ($archive:ident, $name:literal, $check:ident, $explain:ident, $first:ident, $next:ident, $skip:ident,
-     $get_stream:ident, $previous:ident, $walk:ident, $replay:ident, $build_first:ident, $build_next:ident,
-     $build_finish:ident, $listing:ident, $lookup:ident, $rescue:ident) => {
+    ($archive:ident, $check:ident, $explain:ident, $get_stream:ident, $previous:ident, $build_first:ident,
+     $build_next:ident, $build_finish:ident, $listing:ident, $lookup:ident, $rescue:ident) => {
         extern "C" {
             fn $check(stream: *const u8, length: usize, answer: &mut [u64; 1]) -> u64;
             fn $explain(stream: *const u8, length: usize, answer: &mut Explanation) -> u64;
-            fn $first(stream: *const u8, length: usize, place: &mut Place, answer: &mut Answer) -> u64;
-            fn $next(stream: *const u8, length: usize, place: &mut Place, answer: &mut Answer) -> u64;
-            fn $skip(stream: *const u8, length: usize, place: &mut Place, answer: &mut Answer) -> u64;
             fn $get_stream(stream: *const u8, length: usize, place: &mut Place, answer: &mut Answer) -> u64;
             fn $previous(stream: *const u8, length: usize, place: &mut Place, answer: &mut Answer) -> u64;
-            fn $walk(stream: *const u8, length: usize) -> u64;
-            fn $replay(
-                stream: *const u8,
-                length: usize,
-                calls: *const u8,
-                count: usize,
-                log: *mut u64,
-                numbers: usize,
-                answer: &mut [u64; 1],
-            ) -> u64;
             fn $build_first(buffer: *mut u8, length: usize, root: u64, place: &mut BuildPlace) -> u64;
             fn $build_next(
                 buffer: *mut u8,
@@ -113,12 +85,9 @@ macro_rules! archive {
             ) -> u64;
         }
 
-        pub struct $archive;
-
         // SAFETY of all: pointer and length are those of a slice, what is written is lent alone, and the functions are
         // proved safe on any bytes and any place.
         impl Archive for $archive {
-            const NAME: &'static str = $name;
             #[inline(always)]
             fn check(stream: &[u8], answer: &mut [u64; 1]) -> u64 {
                 unsafe { $check(stream.as_ptr(), stream.len(), answer) }
@@ -127,33 +96,11 @@ macro_rules! archive {
             fn explain(stream: &[u8], answer: &mut Explanation) -> u64 {
                 unsafe { $explain(stream.as_ptr(), stream.len(), answer) }
             }
-            #[inline(always)]
-            fn first(stream: &[u8], place: &mut Place, answer: &mut Answer) -> u64 {
-                unsafe { $first(stream.as_ptr(), stream.len(), place, answer) }
-            }
-            #[inline(always)]
-            fn next(stream: &[u8], place: &mut Place, answer: &mut Answer) -> u64 {
-                unsafe { $next(stream.as_ptr(), stream.len(), place, answer) }
-            }
-            fn skip(stream: &[u8], place: &mut Place, answer: &mut Answer) -> u64 {
-                unsafe { $skip(stream.as_ptr(), stream.len(), place, answer) }
-            }
             fn get_stream(stream: &[u8], place: &mut Place, answer: &mut Answer) -> u64 {
                 unsafe { $get_stream(stream.as_ptr(), stream.len(), place, answer) }
             }
             fn previous(stream: &[u8], place: &mut Place, answer: &mut Answer) -> u64 {
                 unsafe { $previous(stream.as_ptr(), stream.len(), place, answer) }
-            }
-            #[inline(always)]
-            fn walk(stream: &[u8]) -> u64 {
-                unsafe { $walk(stream.as_ptr(), stream.len()) }
-            }
-            #[inline(always)]
-            fn replay(stream: &[u8], calls: &[u8], log: &mut [u64], answer: &mut [u64; 1]) -> u64 {
-                let (count, numbers) = (calls.len(), log.len());
-                unsafe {
-                    $replay(stream.as_ptr(), stream.len(), calls.as_ptr(), count, log.as_mut_ptr(), numbers, answer)
-                }
             }
             #[inline(always)]
             fn build_first(buffer: &mut [u8], root: u64, place: &mut BuildPlace) -> u64 {
@@ -202,16 +149,10 @@ macro_rules! archive {
 
 archive!(
     Now,
-    "",
     cdf_check,
     cdf_explain,
-    cdf_first,
-    cdf_next,
-    cdf_skip,
     cdf_get_stream,
     cdf_previous,
-    walk_from_c,
-    cdf_replay,
     cdf_build_first,
     cdf_build_next,
     cdf_build_finish,
@@ -222,16 +163,10 @@ archive!(
 #[cfg(before)]
 archive!(
     Before,
-    "before: ",
     before_cdf_check,
     before_cdf_explain,
-    before_cdf_first,
-    before_cdf_next,
-    before_cdf_skip,
     before_cdf_get_stream,
     before_cdf_previous,
-    before_walk_from_c,
-    before_cdf_replay,
     before_cdf_build_first,
     before_cdf_build_next,
     before_cdf_build_finish,

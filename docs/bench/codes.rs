@@ -1,6 +1,6 @@
 //! The codes that are timed, by part: the first two of a part are plain Rust, inlined and out of line.
 
-use crate::archive::{proved_walk, Archive, Batches, Explanation, Found, Now, Rescued, ENTRY};
+use crate::archive::{proved_walk, Archive, Batches, Explanation, Found, Now, Reads, Rescued, ENTRY};
 use crate::cases::{Case, Second};
 use crate::iterator;
 use crate::plain::{check, explain, replay, walk, INLINED, OUT_OF_LINE};
@@ -81,7 +81,7 @@ fn plain_replay<const CALLS: bool>(case: &Case, scratch: &mut Scratch) -> u64 {
     replay::<CALLS>(&case.stream, &case.calls, &mut scratch.log) as u64
 }
 
-fn proved_replay<A: Archive>(case: &Case, scratch: &mut Scratch) -> u64 {
+pub fn proved_replay<A: Reads>(case: &Case, scratch: &mut Scratch) -> u64 {
     let mut answer = [0];
     A::replay(&case.stream, &case.calls, &mut scratch.log, &mut answer) + answer[0]
 }

@@ -1,9 +1,10 @@
 //! That the proved code gives plain Rust's answers: nothing is timed before.
 
-use crate::archive::{Archive, Explanation, Now, Place, ENTRY};
+use crate::archive::{Archive, Explanation, Now, Place, Reads, Table, ENTRY};
 use crate::cases::{Case, Second};
 use crate::codes::{plain_build, proved_build, Scratch, LISTING_ROOM};
 use crate::compare_reader::{assert_plain_walk, assert_reader, assert_units, words};
+use crate::place::Spot;
 use crate::plain::{check, explain, fold_stop, fold_unit, replay, Reader, INLINED, OUT_OF_LINE};
 use crate::plain_write::{listing, Builder};
 use crate::random::Random;
@@ -109,16 +110,16 @@ fn assert_explain<A: Archive>(label: &str, bytes: &[u8], expected: &Expected) {
 }
 
 /// A start and one NEXT more than there are units, so that the last answer is met twice.
-fn assert_replay<A: Archive>(label: &str, case: &Case) {
+fn assert_replay<A: Reads>(label: &str, case: &Case) {
     let calls = [&case.calls[..], &[2]].concat();
     let mut logs = [0, 1, 2].map(|_| vec![u64::MAX; ENTRY * calls.len() + 5]);
     let [log, inlined, out_of_line] = &mut logs;
     let mut answer = [u64::MAX];
-    assert_eq!(A::replay(&case.stream, &calls, log, &mut answer), 0, "cdf_replay on {label}");
-    assert_eq!(answer[0], calls.len() as u64, "cdf_replay's count on {label}");
+    assert_eq!(A::replay(&case.stream, &calls, log, &mut answer), 0, "{}replay on {label}", A::NAME);
+    assert_eq!(answer[0], calls.len() as u64, "{}the replay's count on {label}", A::NAME);
     assert_eq!(replay::<INLINED>(&case.stream, &calls, inlined), calls.len());
     assert_eq!(replay::<OUT_OF_LINE>(&case.stream, &calls, out_of_line), calls.len());
-    assert!(log == inlined && log == out_of_line, "the log on {label}");
+    assert!(log == inlined && log == out_of_line, "{}the log on {label}", A::NAME);
 }
 
 /// The text, and that with a byte less no text is written.
@@ -214,6 +215,9 @@ pub fn assert_equal(sets: &[Set]) {
         for room in [1, 7, 32] {
             assert_units::<Now>(label, bytes, &expected, &met, room);
         }
+        let tabled = assert_reader::<Table>(label, bytes, &expected);
+        assert!(met.iter().map(Spot::new).eq(tabled.iter().map(Spot::new)), "the table reader's places on {label}");
+        assert_replay::<Table>(label, &case);
         #[cfg(before)]
         assert_archive::<crate::archive::Before>(label, &case, &expected);
         stops[expected.stop.number as usize] += 1;

@@ -1,6 +1,6 @@
 //! That the reader's calls answer as plain Rust does at places that no call made, fitting and not.
 
-use crate::archive::{Archive, Batches, Now, Place};
+use crate::archive::{Answer, Archive, Batches, Now, Place, Reads, Table};
 use crate::compare::{list, read};
 use crate::compare_reader::assert_reader;
 use crate::hand_made;
@@ -15,24 +15,22 @@ const CALLS: [Call; 4] = [Call::Next, Call::Skip, Call::GetStream, Call::Previou
 #[derive(Default)]
 struct Met {
     numbers: [[usize; 12]; CALLS.len()],
+    /// Of NEXT and SKIP of the table reader.
+    tabled: [[usize; 12]; 2],
     units: [usize; 12],
     places: usize,
     fitting: usize,
     alone: [usize; RULES + 1],
 }
 
+type Run = fn(&[u8], &mut Place, &mut Answer) -> u64;
+
 /// Number, answer and place. Beside a 0 the place is compared by what its count reaches; beside any other number, and after PREVIOUS, no
 /// number of it may have changed.
-fn assert_call<A: Archive>(call: Call, stream: &[u8], place: &Place) -> (u64, Place) {
+fn assert_by(name: &str, run: Run, call: Call, stream: &[u8], place: &Place) -> (u64, Place) {
     let (mut left, mut answer) = (*place, [u64::MAX; 10]);
-    let number = match call {
-        Call::Next => A::next(stream, &mut left, &mut answer),
-        Call::Skip => A::skip(stream, &mut left, &mut answer),
-        Call::GetStream => A::get_stream(stream, &mut left, &mut answer),
-        Call::Previous => A::previous(stream, &mut left, &mut answer),
-    };
+    let number = run(stream, &mut left, &mut answer);
     let (owed, owed_answer, spot) = Spot::new(place).call(call, stream);
-    let name = A::NAME;
     assert_eq!((number, answer), (owed, owed_answer), "{name}{call:?} at {place:?}, {} bytes", stream.len());
     if number == 0 && call != Call::Previous {
         assert_eq!(Spot::new(&left), spot, "{name}the place after {call:?} at {place:?}, {} bytes", stream.len());
@@ -41,6 +39,30 @@ fn assert_call<A: Archive>(call: Call, stream: &[u8], place: &Place) -> (u64, Pl
         assert_eq!(left, *place, "{name}the place stays beside {number} of {call:?}");
     }
     (number, left)
+}
+
+fn assert_call<A: Archive>(call: Call, stream: &[u8], place: &Place) -> (u64, Place) {
+    let run = match call {
+        Call::Next => A::next,
+        Call::Skip => A::skip,
+        Call::GetStream => A::get_stream,
+        Call::Previous => A::previous,
+    };
+    assert_by(A::NAME, run, call, stream, place)
+}
+
+/// The two of these calls that the table reader has, and both again where one answered 0.
+fn compare_table(stream: &[u8], place: &Place, met: &mut Met) {
+    let calls: [(Call, Run); 2] = [(Call::Next, Table::next), (Call::Skip, Table::skip)];
+    for ((call, run), numbers) in calls.into_iter().zip(&mut met.tabled) {
+        let (number, left) = assert_by(Table::NAME, run, call, stream, place);
+        numbers[number as usize] += 1;
+        if number == 0 {
+            for (call, run) in calls {
+                assert_by(Table::NAME, run, call, stream, &left);
+            }
+        }
+    }
 }
 
 /// All calls at a place, and what follows a 0.
@@ -95,6 +117,7 @@ fn compare(bytes: &[u8], places: usize, random: &mut Random, met: &mut Met) {
         let place = hand_made::place(&real, bytes.len() as u64, random);
         compare_at::<Now>(bytes, &place, met);
         compare_units::<Now>(bytes, &place, random, met);
+        compare_table(bytes, &place, met);
         #[cfg(before)]
         compare_at::<crate::archive::Before>(bytes, &place, &mut Met::default());
     }
@@ -125,4 +148,7 @@ pub fn assert_equal(sets: &[Set], night: &[Vec<u8>]) {
         println!("  the numbers of {call:?}: {}", list(numbers, given));
     }
     println!("  the numbers of calls for many units: {}", list(&met.units, given[0]));
+    for ((call, numbers), given) in CALLS.iter().zip(&met.tabled).zip(given) {
+        println!("  the numbers of {call:?} of the table reader: {}", list(numbers, given));
+    }
 }

@@ -1,6 +1,6 @@
 //! That FIRST and the NEXTs hand out what plain Rust does: each call, and the walks that are timed. On all streams of the night too.
 
-use crate::archive::{proved_walk, Archive, Batches, Now, Place, LAST, LAST_RANK};
+use crate::archive::{proved_walk, Batches, Now, Place, Reads, Table, LAST, LAST_RANK};
 use crate::compare::{read, Expected};
 use crate::iterator;
 use crate::place::Spot;
@@ -26,7 +26,7 @@ pub fn assert_plain_walk(label: &str, bytes: &[u8], expected: &Expected) {
 }
 
 /// Number, offset and unit of each call, and what the place says of it; then the walk from C. Gives the places that were met.
-pub fn assert_reader<A: Archive>(label: &str, bytes: &[u8], expected: &Expected) -> Vec<Place> {
+pub fn assert_reader<A: Reads>(label: &str, bytes: &[u8], expected: &Expected) -> Vec<Place> {
     let mut place = [u64::MAX; 25];
     let mut answer = [u64::MAX; 10];
     let mut met = Vec::with_capacity(expected.handed.len() + 1);
@@ -86,6 +86,7 @@ pub fn assert_night(night: &[Vec<u8>]) {
         assert_plain_walk(label, bytes, &expected);
         let met = assert_reader::<Now>(label, bytes, &expected);
         assert_units::<Now>(label, bytes, &expected, &met, 32);
+        assert_reader::<Table>(label, bytes, &expected);
         #[cfg(before)]
         assert_reader::<crate::archive::Before>(label, bytes, &expected);
         units += expected.units.len();

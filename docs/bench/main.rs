@@ -18,11 +18,13 @@ mod plain_lookup;
 mod plain_rescue;
 mod plain_write;
 mod random;
+mod readers;
 mod rounds;
 mod rules;
 mod samples;
 mod slow;
 mod streams;
+mod tabled;
 mod timing;
 
 use streams::{night, sets, SIZES};
@@ -45,6 +47,9 @@ fn main() {
     }
     if asked("night") {
         night::table(&codes::reader(), night, rounds::wanted());
+    }
+    if asked("table") {
+        tabled::tables(&sets, &SIZES, rounds::wanted());
     }
     if asked("slow") {
         slow::tables();

@@ -146,8 +146,8 @@ static void list(void) {
     free(text.is);
 }
 
-/* A log for so many entries and one number more, and codes: constants or numbers. */
-static void replay(void) {
+/* A log for so many entries and one number more, and codes: constants or numbers. By either reader. */
+static void replay(const char *call) {
     size_t numbers = CDF_ENTRY_NUMBERS * value(LENGTHS, word());
     size_t count = value(LENGTHS, word());
     bytes calls = many(count, 0);
@@ -155,7 +155,10 @@ static void replay(void) {
     if (!log) stop("no", "memory");
     clear(log, numbers + 1);
     for (size_t i = 0; i < count; i++) calls.is[i] = (uint8_t)value(CALLS, word());
-    returned("cdf_replay", cdf_replay(stream.is, stream.length, calls.is, calls.length, numbers ? log : NULL, numbers, one.is));
+    if (strcmp(call, "cdf_replay"))
+        returned(call, cdf_table_replay(stream.is, stream.length, calls.is, calls.length, numbers ? log : NULL, numbers, one.is));
+    else
+        returned(call, cdf_replay(stream.is, stream.length, calls.is, calls.length, numbers ? log : NULL, numbers, one.is));
     printf(" %llu", (number)one.is[0]);
     for (uint64_t i = 0; i < one.is[0]; i++) {
         const uint64_t *entry = log + CDF_ENTRY_NUMBERS * i;
@@ -172,7 +175,7 @@ static void replay(void) {
         TELL(entry, CDF_ENTRY_RANK);
     }
     for (size_t i = CDF_ENTRY_NUMBERS * one.is[0]; i <= numbers; i++)
-        if (log[i] != UNWRITTEN) stop("written behind the entries of", "cdf_replay");
+        if (log[i] != UNWRITTEN) stop("written behind the entries of", call);
     putchar('\n');
     free(log), free(calls.is);
 }
@@ -260,13 +263,13 @@ static void run(const char *call) {
         rescue();
     } else if (IS_CALL(cdf_listing)) {
         list();
-    } else if (IS_CALL(cdf_replay)) {
-        replay();
+    } else if (IS_CALL(cdf_replay) || IS_CALL(cdf_table_replay)) {
+        replay(call);
     } else if (IS_CALL(cdf_units)) {
         units();
         tell_place(before);
     } else if (READS(cdf_first) || READS(cdf_next) || READS(cdf_skip) || READS(cdf_get_stream) || READS(cdf_previous) ||
-               READS(cdf_abnormal_end)) {
+               READS(cdf_abnormal_end) || READS(cdf_table_first) || READS(cdf_table_next) || READS(cdf_table_skip)) {
         tell_answer();
         tell_place(before);
     } else if (IS_CALL(cdf_build_first)) {

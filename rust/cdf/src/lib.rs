@@ -2,7 +2,7 @@
 //! archive of which every function is proved to answer as the format demands, for any bytes; this crate is its safe face.
 //!
 //! - [`check`] says whether bytes are a stream, [`explain`] why they are not;
-//! - [`Reader`] hands out the units, [`Builder`] writes them;
+//! - [`Reader`] hands out the units, [`Builder`] writes them; [`TableReader`] hands out the same by a table of states, and tells these;
 //! - [`lookup`] finds a field's value in the first of two streams that has it, [`listing`] is a stream as lines of numbers;
 //! - [`rescue`] makes an E/R group of what is whole in a broken one.
 //!
@@ -13,8 +13,10 @@ mod builder;
 mod reader;
 mod refusal;
 mod rescue;
+mod state;
 #[allow(unsafe_code)]
 mod sys;
+mod table;
 mod tools;
 mod unit;
 
@@ -22,5 +24,7 @@ pub use builder::{Builder, Root};
 pub use reader::Reader;
 pub use refusal::Refusal;
 pub use rescue::{rescue, Rescued};
+pub use state::State;
+pub use table::TableReader;
 pub use tools::{check, explain, listing, lookup, version, Explanation, Found, Key, OpenUnit, Which};
 pub use unit::{Action, Id, Unit, NAME_MOST, VALUE_MOST};

@@ -29,7 +29,7 @@ use crate::{Action, Id, Refusal, Unit};
 #[derive(Clone, Debug)]
 pub struct Reader<'a> {
     stream: &'a [u8],
-    state: State,
+    stage: Stage,
     /// Where `ahead` begins, and where it ends.
     before: sys::Place,
     place: sys::Place,
@@ -41,7 +41,7 @@ pub struct Reader<'a> {
 }
 
 #[derive(Clone, Copy, Debug, PartialEq)]
-enum State {
+pub(crate) enum Stage {
     Fresh,
     Reading,
     Over,
@@ -55,7 +55,7 @@ const MOST: usize = 32;
 impl<'a> Reader<'a> {
     /// A reader before the first unit. Nothing is read yet, and any bytes will do.
     pub fn new(stream: &'a [u8]) -> Self {
-        Reader { stream, state: State::Fresh, before: [0; 25], place: [0; 25], ahead: Vec::new(), handed: 0, room: BEGIN }
+        Reader { stream, stage: Stage::Fresh, before: [0; 25], place: [0; 25], ahead: Vec::new(), handed: 0, room: BEGIN }
     }
 
     /// Passes all that is inside the unit just handed out, whatever it is: no answer depends on a byte of it. Refused with 11 where there is
@@ -120,7 +120,7 @@ impl<'a> Reader<'a> {
 
     /// The root. It is no part of what is read ahead.
     fn first(&mut self) -> Option<<Self as Iterator>::Item> {
-        self.state = State::Reading;
+        self.stage = Stage::Reading;
         match sys::read(Call::First, self.stream, &mut self.place) {
             (0, answer) => Some(Ok(unit(self.stream, &listed(&answer)))),
             (number, answer) => self.over(number, answer[0]),
@@ -147,18 +147,18 @@ impl<'a> Reader<'a> {
 
     /// Nothing comes after this.
     fn over(&mut self, number: u64, offset: u64) -> Option<<Self as Iterator>::Item> {
-        self.state = State::Over;
+        self.stage = Stage::Over;
         (number != 1).then(|| Err(Refusal::at(number, offset)))
     }
 }
 
 /// The unit of an answer, as it stands in a list.
-fn listed(&[_, id, action, start, own_end, end, _, _, depth, rank]: &sys::Answer) -> sys::ListedUnit {
+pub(crate) fn listed(&[_, id, action, start, own_end, end, _, _, depth, rank]: &sys::Answer) -> sys::ListedUnit {
     [id, action, start, own_end, end, depth, rank]
 }
 
 #[inline]
-fn unit<'a>(stream: &'a [u8], &[id, action, start, own_end, end, depth, rank]: &sys::ListedUnit) -> Unit<'a> {
+pub(crate) fn unit<'a>(stream: &'a [u8], &[id, action, start, own_end, end, depth, rank]: &sys::ListedUnit) -> Unit<'a> {
     const RULED: &str = "a unit that the reader hands out has an id and an action that the rules know";
     Unit {
         stream,
@@ -181,10 +181,10 @@ impl<'a> Iterator for Reader<'a> {
             self.handed += 1;
             return Some(Ok(unit(self.stream, next)));
         }
-        match self.state {
-            State::Fresh => self.first(),
-            State::Reading => self.read_ahead(),
-            State::Over => None,
+        match self.stage {
+            Stage::Fresh => self.first(),
+            Stage::Reading => self.read_ahead(),
+            Stage::Over => None,
         }
     }
 }

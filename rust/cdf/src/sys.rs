@@ -54,6 +54,9 @@ mod archive {
             list_length: usize,
             answer: &mut Batch,
         ) -> u64;
+        pub fn cdf_table_first(stream: *const u8, length: usize, place: &mut Place, answer: &mut Answer) -> u64;
+        pub fn cdf_table_next(stream: *const u8, length: usize, place: &mut Place, answer: &mut Answer) -> u64;
+        pub fn cdf_table_skip(stream: *const u8, length: usize, place: &mut Place, answer: &mut Answer) -> u64;
         pub fn cdf_listing(stream: *const u8, length: usize, text: *mut u8, text_length: usize, answer: &mut [u64; 1]) -> u64;
         pub fn cdf_build_first(buffer: *mut u8, buffer_length: usize, root: u64, place: &mut BuildPlace) -> u64;
         pub fn cdf_build_next(
@@ -128,13 +131,16 @@ pub fn rescue(stream: &[u8], out: &mut [u8]) -> (u64, Rescued) {
     (number, answer)
 }
 
-/// One of the reader's calls.
+/// One of the reader's calls, or of those of the reader that is driven by a table.
 #[derive(Clone, Copy)]
 pub enum Call {
     First,
     Skip,
     GetStream,
     Previous,
+    TableFirst,
+    TableNext,
+    TableSkip,
 }
 
 pub fn read(call: Call, stream: &[u8], place: &mut Place) -> (u64, Answer) {
@@ -143,6 +149,9 @@ pub fn read(call: Call, stream: &[u8], place: &mut Place) -> (u64, Answer) {
         Call::Skip => archive::cdf_skip,
         Call::GetStream => archive::cdf_get_stream,
         Call::Previous => archive::cdf_previous,
+        Call::TableFirst => archive::cdf_table_first,
+        Call::TableNext => archive::cdf_table_next,
+        Call::TableSkip => archive::cdf_table_skip,
     };
     let mut answer = [0; 10];
     // SAFETY: as above.

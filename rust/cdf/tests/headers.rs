@@ -3,7 +3,7 @@
 use std::collections::BTreeMap;
 use std::fs;
 
-use cdf::{Action, Id, Refusal};
+use cdf::{Action, Id, Refusal, State};
 
 fn text(path: &str) -> String {
     let top = concat!(env!("CARGO_MANIFEST_DIR"), "/../../");
@@ -12,7 +12,7 @@ fn text(path: &str) -> String {
 
 /// The headers without comments.
 fn headers() -> String {
-    let all: String = ["cdf_numbers.h", "cdf.h", "cdf_build.h"].map(|name| text(&format!("include/{name}"))).concat();
+    let all: String = ["cdf_numbers.h", "cdf.h", "cdf_build.h", "cdf_table_reader.h"].map(|name| text(&format!("include/{name}"))).concat();
     all.split("/*").map(|part| part.split_once("*/").map_or(part, |(_, behind)| behind)).collect()
 }
 
@@ -49,6 +49,16 @@ fn ids_and_actions_are_the_headers() {
         assert_eq!(Id::from_number(number).map(Id::number), (1..=14).contains(&number).then_some(number));
         assert_eq!(Action::from_number(number).map(Action::number), (number < 5).then_some(number));
     }
+}
+
+#[test]
+fn states_are_the_headers() {
+    same("CDF_STATE_", State::ALL.iter().map(|state| (format!("{state:?}"), state.number())).collect());
+    for number in 0..300 {
+        assert_eq!(State::from_number(number).map(State::number), (1..=30).contains(&number).then_some(number));
+    }
+    let words: std::collections::BTreeSet<String> = State::ALL.iter().map(State::to_string).collect();
+    assert_eq!(words.len(), State::ALL.len());
 }
 
 #[test]
@@ -122,7 +132,7 @@ fn declarations_are_the_headers() {
         }
     }
     // An iterator reads many units in a call and needs no log, and a reader that is dropped is given up.
-    assert_eq!(missing, ["next", "abnormal_end", "replay"]);
+    assert_eq!(missing, ["next", "abnormal_end", "replay", "table_replay"]);
     assert_eq!(declared.matches("pub fn ").count(), headers.matches("uint64_t cdf_").count() - missing.len());
 }
 

@@ -12,6 +12,7 @@ pub enum Command {
     Lookup,
     Rescue,
     Show,
+    States,
     /// The help, of one command or of all.
     Help(Option<String>),
     Man,
@@ -56,6 +57,7 @@ impl Args {
             "lookup" => Ok(Command::Lookup),
             "rescue" => Ok(Command::Rescue),
             "show" => Ok(Command::Show),
+            "states" => Ok(Command::States),
             "help" => {
                 if self.flag("--man") {
                     self.finish()?;

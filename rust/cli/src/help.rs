@@ -9,7 +9,7 @@ Checks, explains, shows, lists and rescues Common Data Format streams: family tr
 ";
 
 /// Name, words of its call, and what it does.
-const COMMANDS: [(&str, &str, &str); 7] = [
+const COMMANDS: [(&str, &str, &str); 8] = [
     (
         "check",
         "check [--json] [FILE or FOLDER]..",
@@ -34,6 +34,16 @@ The exit status is 1 for a refusal.",
 Shows the tree: a line for each unit, indented by its depth, with its action, kind, name, number and value. Of a refused file all
 units before the fault are shown, and then the fault in words. --offsets begins each line with where the unit starts; --ranks puts
 before each unit, in brackets, how many stand before it directly in the same unit. With --json depth and rank are always there.
+On a terminal lines are cut at its width. The exit status is 1 for a refusal.",
+    ),
+    (
+        "states",
+        "states [--json] [FILE]",
+        "\
+Reads the file by the table of states, for those who know the printed one: a line for each unit with where it begins, how deep it lies,
+what it is, and the state of the unit around it before it came and from then on, by number and in words. Of a refused file all units
+before the fault are there, then the fault in words, whether the table refused it, and the ids that the row admits which counts
+there. docs/STATE-TABLE.md has the table.
 On a terminal lines are cut at its width. The exit status is 1 for a refusal.",
     ),
     (

@@ -16,6 +16,7 @@ mod output;
 mod rescue;
 mod saved;
 mod show;
+mod states;
 mod units;
 
 use std::process::ExitCode;
@@ -81,6 +82,7 @@ fn run(given: Vec<std::ffi::OsString>, out: &mut Out) -> Result<End, Stop> {
         args::Command::Lookup => lookup::run(&mut args, out)?,
         args::Command::Rescue => rescue::run(&mut args, out)?,
         args::Command::Show => show::run(&mut args, out)?,
+        args::Command::States => states::run(&mut args, out)?,
     };
     out.flush()?;
     Ok(end)
