@@ -187,6 +187,23 @@ def without(stream, *lost):
     return bytes(byte for at, byte in enumerate(stream) if at not in lost)
 
 
+SAMPLES = ("family", "family-call", "letters-counted", "resolve-many", "resolve-doubled", "resolve-missing")
+LINKED = make.unit(9, 1, number(7), end(1), end(2))
+RESOLVED = {name: FILES[f"{name}.cdf"] for name in SAMPLES} | {
+    "K1": K1,
+    "K2": K2,
+    "K3": b"",
+    "pair": PAIR,
+    "one-key": people(with_key(1, "Lind"), make.unit(10, 3, number(7), number(2), make.unit(12, 0, number(5)), end(1))),
+    "the-same-twice": people(with_key(1, "Lind"), with_key(1, "Lind")),
+    "template-behind": people(LINKED, with_key(1, "Lind"), with_key(2, "Berg")),
+    "another-name": people(with_key(1, "Lind"), make.unit(5, 1, make.name("FAMILY"), make.key(2)), LINKED),
+    "no-key-before": people(with_key(1, "Lind"), LINKED),
+    "call-without-group": K12,
+    "256-templates": people(*[person(make.key(k)) for k in range(256)], make.unit(9, 4, number(7), end(0), end(255))),
+    "orders-in-a-field": people(person(make.key(1), make.field("NOTE", "\x9b31m\u202e'\\\n")), person(make.key(2), action=4), LINKED),
+}
+
 RESCUED = {name.removesuffix(".cdf"): FILES[name] for name in ("family.cdf", "rescue-person.cdf", "rescue-nothing.cdf", "rescue-short.cdf")} | {
     "K2": K2,
     "K2-byte-lost": without(K2, 20),

@@ -1,6 +1,7 @@
 /* The proved library for Common Data Format streams: the check, why it refuses a stream, the lookup of a value in two, the rescue of a
- * broken E/R data group, the reader, many units in a call and a run of the reader's calls; by cdf_build.h the builder and the listing, and by
- * cdf_table_reader.h a reader that is driven by a table. The numbers that they share are in cdf_numbers.h.
+ * broken E/R data group, which templates the relations of a group mean, the reader, many units in a call and a run of the reader's calls; by
+ * cdf_build.h the builder and the listing, and by cdf_table_reader.h a reader that is driven by a table. The numbers that they share are in
+ * cdf_numbers.h.
  *
  * Build target/libcdf.a with ./library, include this file and link the archive. It is for x86-64 Linux, and needs only memcpy and memset,
  * which every C library has.
@@ -59,6 +60,27 @@ uint64_t cdf_explain(const uint8_t *stream, size_t length, uint64_t answer[CDF_E
 uint64_t cdf_lookup(const uint8_t *first, size_t first_length, const uint8_t *second, size_t second_length,
                     const uint8_t *template_name, size_t template_length, uint64_t key_id, const uint8_t *key, size_t key_length,
                     const uint8_t *field, size_t field_length, uint64_t answer[CDF_LOOKUP_NUMBERS]);
+
+/* Which template each entity key means, before a group is stored. 2 numbers are written at each call. */
+#define CDF_RESOLVE_NUMBERS 2
+#define CDF_RESOLVE_OFFSET 0    /* beside a number of cdf_check its offset, beside 19 and 20 the unit's start, and else 0 */
+#define CDF_RESOLVE_COUNT 1     /* how many ranks the list has; 0 beside any number but CDF_OK */
+
+/* An entity key with a temporary key means the template of its name that has the same temporary key and begins before it in the group.
+ * For each of them, in the order of the stream, that template's rank is written to the list, from its front on: how many units stand before
+ * it directly in the group, relations too, as CDF_ANSWER_RANK tells it. All other numbers of the list stay. list_length counts numbers; such
+ * an entity key has at least 18 bytes, so a list of length / 18 numbers is always long enough. Entity keys with template keys are not asked,
+ * and actions neither: a template that is to be deleted is one like any other.
+ *
+ * Refused are, in this order, each over the whole group: a stream that cdf_check refuses, with its number and offset; with CDF_ERR_PLACE a
+ * root that is no E/R data group, also one that holds such a group; with CDF_ERR_MANY_KEYS more than 256 templates with temporary keys; with
+ * CDF_ERR_DOUBLED the first template whose name and temporary key an earlier one has; with CDF_ERR_UNRESOLVED the first entity key with
+ * a temporary key that has no such template before it; with CDF_ERR_NO_ROOM a list that is too short. No number of the list is then
+ * written. 0, 3 to 10, 12 and 18 to 20.
+ *
+ * What it costs: a check, two passes over the units, and in each of these for every template and entity key with a temporary key a look at
+ * the templates before it that have one, 256 at most. What was measured stands in docs/bench/README.md. */
+uint64_t cdf_resolve(const uint8_t *stream, size_t length, uint64_t *list, size_t list_length, uint64_t answer[CDF_RESOLVE_NUMBERS]);
 
 /* The rescue of a broken E/R data group. 130 numbers are written at each call; those that are not used are zeros, and on a refusal all
  * are. */

@@ -3,6 +3,7 @@
 use cdf_model::lookup::Asked;
 use cdf_model::numbers::{
     AnswerNumbers, BatchNumbers, BuilderNumbers, ExplanationNumbers, FoundNumbers, ReaderNumbers, RescueNumbers,
+    ResolveNumbers,
 };
 use cdf_model::reader::Call;
 
@@ -57,6 +58,7 @@ extern "C" {
         answer: *mut u64,
     ) -> u64;
     fn cdf_rescue(stream: *const u8, n: usize, group: *mut u8, ngroup: usize, answer: *mut u64) -> u64;
+    fn cdf_resolve(stream: *const u8, n: usize, list: *mut u64, numbers: usize, answer: *mut u64) -> u64;
     fn cdf_build_first(buffer: *mut u8, n: usize, root: u64, place: *mut u64) -> u64;
     fn cdf_build_next(
         buffer: *mut u8,
@@ -215,6 +217,14 @@ pub fn rescue(bytes: &[u8], group: &mut [u8]) -> (u64, RescueNumbers) {
     let (room, group) = (group.len(), pointer_mut(group));
     let mut answer = [UNWRITTEN; 130];
     let number = guarded(&mut answer, |answer| unsafe { cdf_rescue(pointer(bytes), bytes.len(), group, room, answer) });
+    (number, answer)
+}
+
+pub fn resolve(stream: &[u8], list: &mut [u64]) -> (u64, ResolveNumbers) {
+    let (numbers, list) = (list.len(), pointer_mut(list));
+    let mut answer = [UNWRITTEN; 2];
+    let number =
+        guarded(&mut answer, |answer| unsafe { cdf_resolve(pointer(stream), stream.len(), list, numbers, answer) });
     (number, answer)
 }
 

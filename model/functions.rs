@@ -18,6 +18,7 @@ pub enum Function {
     Explain,
     Lookup,
     Rescue,
+    Resolve,
     BuildFirst,
     BuildNext,
     AddStream,
@@ -42,7 +43,7 @@ impl From<reader::Call> for Function {
 }
 
 /// The numbers that each function can give.
-pub const CAN_GIVE: [(&str, &[usize]); 21] = [
+pub const CAN_GIVE: [(&str, &[usize]); 22] = [
     ("cdf_check", &[0, 3, 4, 5, 6, 7, 8, 9, 10]),
     ("cdf_first", &[0, 3, 4, 5, 6, 7, 8]),
     ("cdf_next", &[0, 1, 2, 3, 4, 5, 6, 7, 8, 9, 10, 11]),
@@ -56,6 +57,7 @@ pub const CAN_GIVE: [(&str, &[usize]); 21] = [
     ("cdf_explain", &[0, 3, 4, 5, 6, 7, 8, 9, 10]),
     ("cdf_lookup", &[0, 3, 4, 5, 6, 7, 8, 9, 10, 15]),
     ("cdf_rescue", &[0, 3, 12, 13, 16, 17]),
+    ("cdf_resolve", &[0, 3, 4, 5, 6, 7, 8, 9, 10, 12, 18, 19, 20]),
     ("cdf_build_first", &[0, 6, 7, 12]),
     ("cdf_build_next", &[0, 2, 6, 7, 8, 9, 10, 12, 13]),
     ("cdf_build_add_stream", &[0, 2, 7, 10, 12, 13, 14]),
@@ -68,5 +70,5 @@ pub const CAN_GIVE: [(&str, &[usize]); 21] = [
 pub const READER: std::ops::Range<usize> = 1..7;
 /// The reader's calls, the replay and the batches.
 pub const AT_PLACES: std::ops::Range<usize> = 1..9;
-pub const BUILDER: std::ops::Range<usize> = 13..17;
-pub const TABLE: std::ops::Range<usize> = 17..20;
+pub const BUILDER: std::ops::Range<usize> = 14..18;
+pub const TABLE: std::ops::Range<usize> = 18..21;

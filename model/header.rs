@@ -15,12 +15,14 @@ use crate::lookup::lookup;
 use crate::lookup_samples::lookups;
 use crate::numbers::{
     batch, builder_place, explanation, listed, of_builder_place, rescued, BatchNumbers, BuilderNumbers,
-    ExplanationNumbers, FoundNumbers, ReaderNumbers, RescueNumbers, CODES,
+    ExplanationNumbers, FoundNumbers, ReaderNumbers, RescueNumbers, ResolveNumbers, CODES,
 };
 use crate::random::Random;
 use crate::reader::{call, Call, Place, Reply};
 use crate::rescue::rescue;
 use crate::rescue_samples::rescues;
+use crate::resolve::resolve;
+use crate::resolve_samples::resolves;
 use crate::table;
 
 /// The version of the numbers.
@@ -77,6 +79,9 @@ pub fn lines() -> Lines {
     for (_, bytes, room, _) in rescues() {
         save(&mut lines, &bytes, room.min(100_000) as usize);
     }
+    for (_, stream, room, _) in resolves() {
+        ranks(&mut lines, &stream, room as usize);
+    }
     for case in build_cases() {
         build(&mut lines, &case);
     }
@@ -92,6 +97,7 @@ fn constants(lines: &mut Lines) {
         ("EXPLAIN_NUMBERS", count::<ExplanationNumbers>()),
         ("LOOKUP_NUMBERS", count::<FoundNumbers>()),
         ("RESCUE_NUMBERS", count::<RescueNumbers>()),
+        ("RESOLVE_NUMBERS", count::<ResolveNumbers>()),
         ("PLACE_NUMBERS", count::<ReaderNumbers>()),
         ("ANSWER_NUMBERS", ANSWER.len()),
         ("ENTRY_NUMBERS", ENTRY.len()),
@@ -189,6 +195,16 @@ fn save(lines: &mut Lines, bytes: &[u8], room: usize) {
     let owed = format!(" CDF_RESCUE_LENGTH={length} CDF_RESCUE_COUNT={count} CDF_RESCUE_RUNS={runs}{}", sum(&out));
     lines.given(&format!("stream {}", hex(bytes)));
     lines.call(&format!("cdf_rescue {room}"), number(saved.number), &owed);
+}
+
+/// A resolving into a list of so many numbers.
+fn ranks(lines: &mut Lines, stream: &[u8], room: usize) {
+    let resolved = resolve(stream, room as u64);
+    let ranks: String = resolved.ranks.iter().map(|rank| format!(",{rank}")).collect();
+    let (offset, count) = (resolved.offset, resolved.ranks.len());
+    lines.given(&format!("stream {}", hex(stream)));
+    let owed = format!(" CDF_RESOLVE_OFFSET={offset} CDF_RESOLVE_COUNT={count}{ranks}");
+    lines.call(&format!("cdf_resolve {room}"), number(resolved.number), &owed);
 }
 
 /// The listing with so much room, as the line says it.

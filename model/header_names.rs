@@ -5,7 +5,7 @@ use crate::numbers;
 use crate::reader::{self, Call, Reply};
 use crate::rules::{Had, Handed, Unit};
 
-const NUMBERS: [&str; 18] = [
+const NUMBERS: [&str; 21] = [
     "CDF_OK",
     "CDF_END",
     "CDF_ERR_UNFIT",
@@ -24,6 +24,9 @@ const NUMBERS: [&str; 18] = [
     "CDF_ERR_NOT_FOUND",
     "CDF_ERR_NOTHING_KEPT",
     "CDF_ERR_MANY_RUNS",
+    "CDF_ERR_MANY_KEYS",
+    "CDF_ERR_DOUBLED",
+    "CDF_ERR_UNRESOLVED",
 ];
 
 pub fn id(id: u64) -> String {

@@ -1,4 +1,4 @@
-//! A second implementation of document 01, and of requests a) to d), f) to h) and k) of 02, in plain Rust, written from the
+//! A second implementation of document 01, and of requests a) to d), f) to i) and k) of 02, in plain Rust, written from the
 //! documents and not from the proved code.
 
 pub mod batch;
@@ -22,6 +22,8 @@ pub mod ranked_samples;
 pub mod reader;
 pub mod rescue;
 pub mod rescue_samples;
+pub mod resolve;
+pub mod resolve_samples;
 pub mod rules;
 pub mod samples;
 pub mod streams;

@@ -1,5 +1,5 @@
-//! Compares an archive of the library, and the Rust crate over it, with the model on random streams, calls, places, requests, lookups and
-//! rescues.
+//! Compares an archive of the library, and the Rust crate over it, with the model on random streams, calls, places, requests, lookups,
+//! rescues and resolvings.
 //!   diff SECONDS SEED   for so long
 //!   diff long SEED      until the figures of `LONG` are reached, with a progress line
 //!   diff places SEED    hand-made places, batches and replays alone, until the figures of `PLACES` are reached
@@ -13,12 +13,15 @@ mod keyed;
 mod keys;
 mod looked_up;
 mod lookups;
+mod persons;
 mod places;
 mod pointed;
 mod ranked;
 mod readers;
 mod rescued;
 mod rescues;
+mod resolved;
+mod resolves;
 mod safe;
 mod tables;
 mod tally;
@@ -35,6 +38,8 @@ use cdf_model::ranked_samples::{at_places, levels};
 use cdf_model::reader::{self, Call};
 use cdf_model::rescue::rescue;
 use cdf_model::rescue_samples::rescues;
+use cdf_model::resolve::resolve;
+use cdf_model::resolve_samples::resolves;
 use cdf_model::rules::Refusal;
 use cdf_model::samples::{samples, KEYS, POINTED, TOLD};
 use cdf_model::streams::{damage_bytes, damage_tree, filled, grow, mend_root, noise, redirected, Tree};
@@ -119,6 +124,7 @@ fn round(tally: &mut Tally, places_alone: bool) {
     builders::compare(tally, random);
     lookups::compare(tally, random);
     rescues::compare(tally, random);
+    resolves::compare(tally, random);
     safe::compare(tally, &stream);
     tables::compare(tally, &stream);
     tally.round += 1;
@@ -150,6 +156,10 @@ fn fixed(tally: &mut Tally) {
         assert_eq!(rescue(&bytes, room), owed, "{label}");
         // A room that no buffer has is as good as one for all bytes.
         rescues::compare_rescue(tally, &bytes, room.min(100_000));
+    }
+    for (label, stream, room, owed) in resolves() {
+        assert_eq!(resolve(&stream, room), owed, "{label}");
+        resolves::compare_resolve(tally, &stream, room);
     }
     for (label, bytes, owed) in levels() {
         let told: Vec<(u64, u64)> = handed(&list(&bytes).units).iter().map(|one| (one.depth, one.rank)).collect();

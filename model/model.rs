@@ -12,6 +12,9 @@
 //!   model rescue FILE ROOM
 //!                      what can be rescued, in numbers: number, the group's length, how many runs, and first byte and byte
 //!                      after the last of each
+//!   model resolve FILE ROOM
+//!                      which template each entity key means, in numbers, into a list of so many: number, offset, how many
+//!                      ranks, and these
 //!   model inputs       the stored cases of the check, as cdf_check_cases reads them
 //!   model answers      the check's answer to each
 //!   model build-inputs the stored cases of the builder, as cdf_builder_cases reads them
@@ -28,6 +31,7 @@ use cdf_model::lookup::{lookup, Asked, Found};
 use cdf_model::numbers::state_number;
 use cdf_model::reader::{Call, Place};
 use cdf_model::rescue::{rescue, Rescued};
+use cdf_model::resolve::{resolve, Resolved};
 use cdf_model::rules::Handed;
 use cdf_model::units::{handed, list};
 use cdf_model::{cases, check, header, samples, table};
@@ -103,6 +107,11 @@ fn rescued(bytes: &[u8], room: u64) -> String {
     written(&numbers)
 }
 
+fn resolved(stream: &[u8], room: u64) -> String {
+    let Resolved { number, offset, ranks } = resolve(stream, room);
+    written(&[&[number, offset, ranks.len() as u64], &ranks[..]].concat())
+}
+
 /// The first 65,536 bytes: one more than a stream may have.
 fn read(path: &str) -> io::Result<Vec<u8>> {
     let mut bytes = Vec::new();
@@ -131,6 +140,10 @@ fn main() -> io::Result<()> {
             Ok(room) => rescued(&std::fs::read(path)?, room) + "\n",
             Err(_) => usage(),
         },
+        ["resolve", path, room] => match room.parse() {
+            Ok(room) => resolved(&read(path)?, room) + "\n",
+            Err(_) => usage(),
+        },
         ["inputs"] => lines(|bytes| ":".to_string() + &cases::written(bytes)),
         ["answers"] => lines(|bytes| " ".to_string() + &answer(bytes)),
         ["build-inputs"] => build_cases().iter().map(BuildCase::input).collect(),
@@ -143,7 +156,8 @@ fn main() -> io::Result<()> {
 }
 
 fn usage() -> ! {
-    eprintln!("usage: model check FILE | explain FILE | list FILE | levels FILE | states FILE | rescue FILE ROOM");
+    eprintln!("usage: model check FILE | explain FILE | list FILE | levels FILE | states FILE");
+    eprintln!("       model rescue FILE ROOM | resolve FILE ROOM");
     eprintln!("       model lookup FIRST SECOND TEMPLATE KEY_ID KEY FIELD");
     eprintln!("       model inputs | answers | build-inputs | build-answers | header-calls | header-answers");
     std::process::exit(2);

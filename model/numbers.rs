@@ -18,6 +18,8 @@ pub type BuilderNumbers = [u64; 10];
 pub type ExplanationNumbers = [u64; 25];
 pub type FoundNumbers = [u64; 4];
 pub type RescueNumbers = [u64; 130];
+/// Offset, and how many ranks are in the list.
+pub type ResolveNumbers = [u64; 2];
 pub type BatchNumbers = [u64; 2];
 
 /// The states, from 1 on: an id, and what such a unit has had.

@@ -11,6 +11,7 @@ use cdf_model::numbers::state_number;
 use cdf_model::random::Random;
 use cdf_model::reader::{self, Call, Place};
 use cdf_model::rescue::Rescued;
+use cdf_model::resolve::{resolve, Resolved};
 use cdf_model::rules::{Handed, Unit};
 use cdf_model::streams::{damage_data, grow, request};
 use cdf_model::table;
@@ -75,6 +76,18 @@ pub fn compare_rescue(tally: &mut Tally, bytes: &[u8], room: u64, owed: &Rescued
         Err(refusal) => Rescued { number: refusal.number, ..Rescued::default() },
     };
     same(tally, "cdf::rescue", &given, &said, owed);
+}
+
+/// The ranks of the same stream: the crate's list is always long enough.
+pub fn compare_resolve(tally: &mut Tally, stream: &[u8]) {
+    let said = match cdf::resolve(stream) {
+        Ok(ranks) => Resolved { number: 0, offset: 0, ranks: ranks.iter().map(|rank| *rank as u64).collect() },
+        Err(refusal) => {
+            let (number, offset) = numbers(&refusal);
+            Resolved { number, offset, ranks: vec![] }
+        }
+    };
+    same(tally, "cdf::resolve", &|| hex(stream), said, resolve(stream, u64::MAX));
 }
 
 /// A run of the iterator, with calls in between.

@@ -7,6 +7,7 @@ use crate::looked_up::LOOKED_UP;
 use crate::pointed::{Byte, BYTES};
 use crate::ranked::RANKED;
 use crate::rescued::RESCUED;
+use crate::resolved::RESOLVED;
 use crate::tables::Looks;
 use cdf_model::explain::Explanation;
 use cdf_model::rules::Had;
@@ -50,7 +51,7 @@ const TEMPORARY: [&str; 4] = [
 pub struct Tally {
     pub seed: u64,
     pub round: u64,
-    met: [[u64; 18]; CAN_GIVE.len()],
+    met: [[u64; 21]; CAN_GIVE.len()],
     kinds: BTreeMap<&'static str, u64>,
     /// How many hand-made places missed one clause alone.
     reader_missed: [u64; reader::CLAUSES.len()],
@@ -62,6 +63,7 @@ pub struct Tally {
     temporary: [u64; TEMPORARY.len()],
     looked_up: [u64; LOOKED_UP.len()],
     rescued: [u64; RESCUED.len()],
+    resolved: [u64; RESOLVED.len()],
     ranked: [u64; RANKED.len()],
     batched: [u64; BATCHED.len()],
     pub looks: Looks,
@@ -72,7 +74,7 @@ impl Tally {
         Tally {
             seed,
             round: 0,
-            met: [[0; 18]; CAN_GIVE.len()],
+            met: [[0; 21]; CAN_GIVE.len()],
             kinds: BTreeMap::new(),
             reader_missed: [0; reader::CLAUSES.len()],
             builder_missed: [0; builder::CLAUSES.len()],
@@ -82,6 +84,7 @@ impl Tally {
             temporary: [0; TEMPORARY.len()],
             looked_up: [0; LOOKED_UP.len()],
             rescued: [0; RESCUED.len()],
+            resolved: [0; RESOLVED.len()],
             ranked: [0; RANKED.len()],
             batched: [0; BATCHED.len()],
             looks: Looks::default(),
@@ -174,6 +177,11 @@ impl Tally {
         count_each(&RESCUED, &mut self.rescued, kinds);
     }
 
+    /// A resolving that was all these of `RESOLVED`.
+    pub fn resolved(&mut self, kinds: &[&str]) {
+        count_each(&RESOLVED, &mut self.resolved, kinds);
+    }
+
     /// A place, a PREVIOUS or a NEXT that was all these of `RANKED`.
     pub fn ranked(&mut self, kinds: &[&str]) {
         count_each(&RANKED, &mut self.ranked, kinds);
@@ -209,8 +217,8 @@ impl Tally {
 
     /// Prints the figures. False if a number was not met that the function can give, or met that it cannot, or if a clause
     /// was never missed alone, a kind of refusal not explained, a kind of byte not named, a kind of key not refused, a kind
-    /// of lookup, of rescue or of batch not made, a kind of rank not told, or an entry of the table not asked. Of a run on hand-made
-    /// places alone the functions that it calls are asked, and the kinds of places, ranks and batches.
+    /// of lookup, of rescue, of resolving or of batch not made, a kind of rank not told, or an entry of the table not asked. Of a run on
+    /// hand-made places alone the functions that it calls are asked, and the kinds of places, ranks and batches.
     pub fn report(&self, places_alone: bool) -> bool {
         let mut good = true;
         println!("compared:");
@@ -261,6 +269,7 @@ impl Tally {
         good &= each_met("hand-made places that fit, and their innermost unit", &TEMPORARY, &self.temporary, &[]);
         good &= each_met("lookups", &LOOKED_UP, &self.looked_up, &[]);
         good &= each_met("rescues", &RESCUED, &self.rescued, &[]);
+        good &= each_met("resolvings", &RESOLVED, &self.resolved, &[]);
         good & self.looks.report()
     }
 }

@@ -73,8 +73,8 @@ RELATIONS = [
 ]
 
 
-def group(field=field, people=PEOPLE):
-    return unit(ER_GROUP, NONE, *(person(*p, field=field) for p in people), *RELATIONS)
+def group(field=field, people=PEOPLE, relations=RELATIONS):
+    return unit(ER_GROUP, NONE, *(person(*p, field=field) for p in people), *relations)
 
 
 def call():
@@ -101,6 +101,10 @@ def files():
         "rescue-person.cdf": family[:100] + family[103:],  # three bytes of the second person did not arrive
         "rescue-nothing.cdf": alone[:40] + alone[41:],  # one byte of the only person did not arrive
         "rescue-short.cdf": family[:5],
+        # Two devices gave the same temporary key: the last person has the third one's, and so has her birth.
+        "resolve-doubled.cdf": group(people=[*PEOPLE[:-1], (2, "Édouard", "Märta")], relations=[*RELATIONS[:-1], birth(21, 1, 2, 2)]),
+        "resolve-missing.cdf": group(people=PEOPLE[:-1]),  # the child of the last birth was not sent
+        "resolve-many.cdf": unit(ER_GROUP, NONE, *(unit(TEMPLATE, CREATE, name("PERSON"), key(k)) for k in range(1, 258)), marriage(1, 1, 257)),
     }
 
 

@@ -9,6 +9,7 @@ mod compare_lookup;
 mod compare_places;
 mod compare_reader;
 mod compare_rescue;
+mod compare_resolve;
 mod hand_made;
 mod iterator;
 mod night;
@@ -16,9 +17,11 @@ mod place;
 mod plain;
 mod plain_lookup;
 mod plain_rescue;
+mod plain_resolve;
 mod plain_write;
 mod random;
 mod readers;
+mod resolve;
 mod rounds;
 mod rules;
 mod samples;
@@ -38,6 +41,7 @@ fn main() {
     compare_places::assert_equal(&sets, &night);
     compare_lookup::assert_equal(&sets);
     compare_rescue::assert_equal(&sets);
+    compare_resolve::assert_equal(&sets);
     if named.iter().any(|name| name == "answers") {
         return;
     }
@@ -53,5 +57,8 @@ fn main() {
     }
     if asked("slow") {
         slow::tables();
+    }
+    if asked("resolve") {
+        resolve::tables(rounds::wanted());
     }
 }

@@ -11,13 +11,15 @@ GUARDED(batch, CDF_UNITS_NUMBERS);
 GUARDED(explanation, CDF_EXPLAIN_NUMBERS);
 GUARDED(found, CDF_LOOKUP_NUMBERS);
 GUARDED(rescued, CDF_RESCUE_NUMBERS);
+GUARDED(resolved, CDF_RESOLVE_NUMBERS);
 GUARDED(building, CDF_BUILD_PLACE_NUMBERS);
 
 static bytes stream, buffer;
 static int done;
 
 static void returned(const char *function, uint64_t is) {
-    if (!(KEPT(place) && KEPT(answer) && KEPT(one) && KEPT(batch) && KEPT(explanation) && KEPT(found) && KEPT(rescued) && KEPT(building)))
+    if (!(KEPT(place) && KEPT(answer) && KEPT(one) && KEPT(batch) && KEPT(explanation) && KEPT(found) && KEPT(rescued) && KEPT(resolved) &&
+          KEPT(building)))
         stop("written outside an array:", function);
     printf("%s ", function);
     tell(NUMBERS, is);
@@ -137,6 +139,24 @@ static void rescue(void) {
     free(out.is);
 }
 
+/* Into a list of so many numbers, and one more behind it. */
+static void resolve(void) {
+    const uint64_t *r = resolved.is;
+    size_t numbers = value(LENGTHS, word());
+    uint64_t *ranks = (uint64_t *)malloc((numbers + 1) * sizeof *ranks);
+    if (!ranks) stop("no", "memory");
+    clear(ranks, numbers + 1);
+    returned("cdf_resolve", cdf_resolve(stream.is, stream.length, numbers ? ranks : NULL, numbers, resolved.is));
+    TELL(r, CDF_RESOLVE_OFFSET);
+    TELL(r, CDF_RESOLVE_COUNT);
+    if (r[CDF_RESOLVE_COUNT] > numbers) stop("more ranks than there is room for:", "cdf_resolve");
+    tell_numbers(ranks, r[CDF_RESOLVE_COUNT]);
+    for (size_t i = r[CDF_RESOLVE_COUNT]; i <= numbers; i++)
+        if (ranks[i] != UNWRITTEN) stop("written behind the ranks of", "cdf_resolve");
+    putchar('\n');
+    free(ranks);
+}
+
 static void list(void) {
     bytes text = many(value(LENGTHS, word()), 0xEE);
     returned("cdf_listing", cdf_listing(stream.is, stream.length, text.is, text.length, one.is));
@@ -238,7 +258,8 @@ static void run(const char *call) {
     uint64_t before[CDF_PLACE_NUMBERS], building_before[CDF_BUILD_PLACE_NUMBERS];
     memcpy(before, place.is, sizeof before);
     memcpy(building_before, building.is, sizeof building_before);
-    CLEAR(answer.is), CLEAR(one.is), CLEAR(batch.is), CLEAR(explanation.is), CLEAR(found.is), CLEAR(rescued.is);
+    CLEAR(answer.is), CLEAR(one.is), CLEAR(batch.is), CLEAR(explanation.is), CLEAR(found.is), CLEAR(rescued.is),
+        CLEAR(resolved.is);
     if (IS_CALL(stream)) {
         free(stream.is);
         stream = in_hex();
@@ -261,6 +282,8 @@ static void run(const char *call) {
         look_up();
     } else if (IS_CALL(cdf_rescue)) {
         rescue();
+    } else if (IS_CALL(cdf_resolve)) {
+        resolve();
     } else if (IS_CALL(cdf_listing)) {
         list();
     } else if (IS_CALL(cdf_replay) || IS_CALL(cdf_table_replay)) {
@@ -292,7 +315,7 @@ static void run(const char *call) {
 
 int main(void) {
     static char line[1 << 19];
-    SET(place), SET(answer), SET(one), SET(batch), SET(explanation), SET(found), SET(rescued), SET(building);
+    SET(place), SET(answer), SET(one), SET(batch), SET(explanation), SET(found), SET(rescued), SET(resolved), SET(building);
     while (fgets(line, sizeof line, stdin)) {
         if (!strchr(line, '\n')) stop("a line is", "too long");
         run(strtok(line, " \n"));

@@ -29,7 +29,8 @@ pub struct Walked {
     pub value: Value,
 }
 
-fn same(a: &[u8], b: &[u8]) -> bool
+// Whether the bytes are the same.
+pub fn same(a: &[u8], b: &[u8]) -> bool
     ensures { λ r. ⌜ r ≡ sameBytes (now (a .entry)) (now (b .entry)) ⌝ }
 {
     if a.len() != b.len() {

@@ -21,7 +21,7 @@ use Rattle.cdf_lookup_spec.proofs.Telling.{some-first, asked-tells, fie
 use Rattle.cdf_lookup_spec.proofs.Choosing.{isField, isAsked, value-is, inside-is}
 
 -- The test of the root tells that it is an E/R group.
-grouped : (l : Layout) (s : List ℕ) → isGroup (listing l s .units) ≡ true → Grouped l s
+pub grouped : (l : Layout) (s : List ℕ) → isGroup (listing l s .units) ≡ true → Grouped l s
 unfolding isGroup
 grouped l s e = go (listing l s .units) refl e
   where
@@ -29,7 +29,7 @@ grouped l s e = go (listing l s .units) refl e
     go [] x e = absurd (false≢true e)
     go (u ∷ us) x e = (u, us, x, eqb-true (u .id) erGroup e)
 
-group-test : (l : Layout) (s : List ℕ) → Grouped l s → isGroup (listing l s .units) ≡ true
+pub group-test : (l : Layout) (s : List ℕ) → Grouped l s → isGroup (listing l s .units) ≡ true
 unfolding isGroup
 group-test l s (u, us, x, e) = rw x (eq-eqb (u .id) erGroup e)
 

@@ -33,7 +33,7 @@ rising-joined a b x (u ∷ us) vs r q = (r .0, rising-joined (suc (u .start)) b 
 
 module _ (l : Layout) where
   -- How many bytes a tree and those after it take.
-  long : (id action : ℕ) (text : List ℕ) (inner rest : Forest) →
+  pub long : (id action : ℕ) (text : List ℕ) (inner rest : Forest) →
       length (encode l (tree id action text inner rest))
       ≡ prefixOf l + (length text + length (encode l inner)) + length (encode l rest)
   long id action text inner rest = rw (encode-tree, length-append, length-unit)

@@ -21,11 +21,11 @@ use Rattle.cdf_lookup_spec.proofs.Telling.{key-fact}
 use Rattle.cdf_lookup_spec.proofs.Ordered.{Rising, Keyed}
 
 -- Each of these starts before x.
-abbrev Before : ℕ → List Unit → Type 0
+abbrev pub Before : ℕ → List Unit → Type 0
 Before x [] = record {}
 Before x (v ∷ vs) = (v .start < x) × Before x vs
 
-before-on : (x y : ℕ) (vs : List Unit) → x ≤ y → Before x vs → Before y vs
+pub before-on : (x y : ℕ) (vs : List Unit) → x ≤ y → Before x vs → Before y vs
 before-on x y [] less b = record {}
 before-on x y (v ∷ vs) less b = (omega (arith, b .0), before-on x y vs less (b .1))
 
@@ -35,11 +35,11 @@ module _ (t : Unit) (test : Unit → Bool) where
   testIn u = inside t u && test u
 
   -- A unit that does not start behind the start of t is not in it,
-  early : (v : Unit) → v .start ≤ t .start → testIn v ≡ false
+  pub early : (v : Unit) → v .start ≤ t .start → testIn v ≡ false
   unfolding inside
   early v h = rw (le-ltb (t .start) (v .start) h)
 
-  skip-before : (before us : List Unit) → Before (suc (t .start)) before → firstThat testIn (reverseAux before us) ≡ firstThat testIn us
+  pub skip-before : (before us : List Unit) → Before (suc (t .start)) before → firstThat testIn (reverseAux before us) ≡ firstThat testIn us
   unfolding firstThat
   skip-before [] us b = refl
   skip-before (v ∷ vs) us b = skip-before vs (v ∷ us) (b .1) ∙ rw (early v (omega (arith, b .0)))
@@ -60,7 +60,7 @@ module _ (t : Unit) (test : Unit → Bool) where
       rw (late u (omega (arith, r .0))) (none-late (suc (u .start)) b us (omega (arith, r .0)) (r .1))
 
   -- One that starts in it is judged by the test.
-  judged : (u : Unit) → t .start < u .start → u .start < t .end → testIn u ≡ test u
+  pub judged : (u : Unit) → t .start < u .start → u .start < t .end → testIn u ≡ test u
   unfolding inside
   judged u h k = rw (lt-ltb (t .start) (u .start) h, lt-ltb (u .start) (t .end) k)
 

@@ -106,7 +106,7 @@ key-fact k e = go (either (eqb (k .id) temporaryKey) (eqb (k .id) templateKey) e
     go (inl x) = inl (eqb-true (k .id) temporaryKey x)
     go (inr x) = inr (eqb-true (k .id) templateKey x)
 
-key-tells : (t : Unit) → Tells (λ u. inside t u && isKey u) (KeyIn t)
+pub key-tells : (t : Unit) → Tells (λ u. inside t u && isKey u) (KeyIn t)
 key-tells t = tells-both (inside t) isKey (Within t) OfKey (in-tells t) (record { fact = key-fact; pass = key-is })
 
 module _ (l : Layout) (s : List ℕ) where

@@ -4,7 +4,8 @@
 //! - [`check`] says whether bytes are a stream, [`explain`] why they are not;
 //! - [`Reader`] hands out the units, [`Builder`] writes them; [`TableReader`] hands out the same by a table of states, and tells these;
 //! - [`lookup`] finds a field's value in the first of two streams that has it, [`listing`] is a stream as lines of numbers;
-//! - [`rescue`] makes an E/R group of what is whole in a broken one.
+//! - [`rescue`] makes an E/R group of what is whole in a broken one;
+//! - [`resolve`] says which template of a group each entity key with a temporary key means.
 //!
 //! The archive, `libcdf.a`, is made by `./library` at the top of the repository; `CDF_LIB_DIR` names another folder that has it.
 #![deny(unsafe_code)]
@@ -13,6 +14,7 @@ mod builder;
 mod reader;
 mod refusal;
 mod rescue;
+mod resolve;
 mod state;
 #[allow(unsafe_code)]
 mod sys;
@@ -24,6 +26,7 @@ pub use builder::{Builder, Root};
 pub use reader::Reader;
 pub use refusal::Refusal;
 pub use rescue::{rescue, Rescued};
+pub use resolve::resolve;
 pub use state::State;
 pub use table::TableReader;
 pub use tools::{check, explain, listing, lookup, version, Explanation, Found, Key, OpenUnit, Which};

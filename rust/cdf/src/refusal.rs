@@ -13,17 +13,18 @@ use std::fmt;
 /// ```
 #[derive(Clone, Copy, Debug, PartialEq, Eq, Hash)]
 pub struct Refusal {
-    /// Which rule is broken first, 2 to 17. Section 4 of docs/FORMAT.md has them all.
+    /// Which rule is broken first, 2 to 20. Section 4 of docs/FORMAT.md has them all.
     pub number: u64,
     /// Of check and reader, with 3 to 8 where the unit begins that breaks the rule, with 9 the first byte in it that does, with 10 where
-    /// the unit begins that lacks something. The numbers of builder and rescue have none.
+    /// the unit begins that lacks something; with 19 where the template begins, and with 20 the entity key. The numbers of builder and
+    /// rescue have none.
     pub offset: Option<usize>,
 }
 
 impl Refusal {
     pub(crate) fn at(number: u64, offset: u64) -> Self {
-        // The rules of a unit, and no other numbers, speak of a byte.
-        let offset = (3..=10).contains(&number).then_some(offset as usize);
+        // The rules of a unit, and of a resolving those that name a unit, speak of a byte.
+        let offset = matches!(number, 3..=10 | 19 | 20).then_some(offset as usize);
         Refusal { number, offset }
     }
 
@@ -50,6 +51,9 @@ impl Refusal {
             15 => "neither stream has the field that is looked up",
             16 => "no whole template or relation was found",
             17 => "the bytes are damaged in more than 64 places",
+            18 => "more than 256 templates have temporary keys",
+            19 => "a template has the name and the temporary key of an earlier one",
+            20 => "no earlier template has the name and the temporary key of an entity key",
             _ => "a number that this version does not know",
         }
     }

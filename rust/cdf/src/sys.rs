@@ -15,13 +15,15 @@ pub type Explained = [u64; 25];
 pub type Found = [u64; 4];
 /// The numbers of a rescue's answer, `CDF_RESCUE_NUMBERS`.
 pub type Rescued = [u64; 130];
+/// The numbers of the answer to a resolving, `CDF_RESOLVE_NUMBERS`.
+pub type Resolved = [u64; 2];
 /// The numbers of a builder's place, `CDF_BUILD_PLACE_NUMBERS`.
 pub type BuildPlace = [u64; 10];
 /// As many bytes as the listing of any stream takes, `CDF_LISTING_ROOM`.
 pub const LISTING_ROOM: usize = 207_527;
 
 mod archive {
-    use super::{Answer, Batch, BuildPlace, Explained, Found, Place, Rescued};
+    use super::{Answer, Batch, BuildPlace, Explained, Found, Place, Rescued, Resolved};
 
     extern "C" {
         pub fn cdf_version() -> u64;
@@ -42,6 +44,7 @@ mod archive {
             answer: &mut Found,
         ) -> u64;
         pub fn cdf_rescue(stream: *const u8, length: usize, out: *mut u8, out_length: usize, answer: &mut Rescued) -> u64;
+        pub fn cdf_resolve(stream: *const u8, length: usize, list: *mut u64, list_length: usize, answer: &mut Resolved) -> u64;
         pub fn cdf_first(stream: *const u8, length: usize, place: &mut Place, answer: &mut Answer) -> u64;
         pub fn cdf_skip(stream: *const u8, length: usize, place: &mut Place, answer: &mut Answer) -> u64;
         pub fn cdf_get_stream(stream: *const u8, length: usize, place: &mut Place, answer: &mut Answer) -> u64;
@@ -128,6 +131,14 @@ pub fn rescue(stream: &[u8], out: &mut [u8]) -> (u64, Rescued) {
     let mut answer = [0; 130];
     // SAFETY: as above.
     let number = unsafe { archive::cdf_rescue(stream.as_ptr(), stream.len(), out.as_mut_ptr(), out.len(), &mut answer) };
+    (number, answer)
+}
+
+/// As many ranks as there are keys to resolve, into a list: the number, the offset, and how many.
+pub fn resolve(stream: &[u8], list: &mut [u64]) -> (u64, Resolved) {
+    let mut answer = [0; 2];
+    // SAFETY: as above.
+    let number = unsafe { archive::cdf_resolve(stream.as_ptr(), stream.len(), list.as_mut_ptr(), list.len(), &mut answer) };
     (number, answer)
 }
 

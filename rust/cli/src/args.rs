@@ -11,6 +11,7 @@ pub enum Command {
     Explain,
     Lookup,
     Rescue,
+    Resolve,
     Show,
     States,
     /// The help, of one command or of all.
@@ -56,6 +57,7 @@ impl Args {
             "explain" => Ok(Command::Explain),
             "lookup" => Ok(Command::Lookup),
             "rescue" => Ok(Command::Rescue),
+            "resolve" => Ok(Command::Resolve),
             "show" => Ok(Command::Show),
             "states" => Ok(Command::States),
             "help" => {

@@ -245,7 +245,7 @@ fn left(count: usize) -> String {
     }
 }
 
-fn with_article(kind: &str) -> String {
+pub fn with_article(kind: &str) -> String {
     format!("{} {kind}", if kind.starts_with(['a', 'e', 'o', 'E']) { "an" } else { "a" })
 }
 
@@ -253,7 +253,7 @@ fn numbered(action: Action) -> String {
     format!("{} ({action})", action.number())
 }
 
-fn capital(text: &str) -> String {
+pub fn capital(text: &str) -> String {
     let mut rest = text.chars();
     rest.next().into_iter().flat_map(char::to_uppercase).chain(rest).collect()
 }

@@ -5,11 +5,11 @@ use crate::Stop;
 const LEAD: &str = "\
 usage: cdf COMMAND [OPTION].. [FILE]..
 
-Checks, explains, shows, lists and rescues Common Data Format streams: family trees, function calls and files as nested units.
+Checks, explains, shows, lists, rescues and resolves Common Data Format streams: family trees, function calls and files as nested units.
 ";
 
 /// Name, words of its call, and what it does.
-const COMMANDS: [(&str, &str, &str); 8] = [
+const COMMANDS: [(&str, &str, &str); 9] = [
     (
         "check",
         "check [--json] [FILE or FOLDER]..",
@@ -77,6 +77,17 @@ template which was not kept. OUT is written as a whole or not at all, and may be
 The exit status is 1 for a refusal: fewer than six bytes, nothing to keep, more than 64 runs, too long a file or group. OUT then stays
 as it was.",
     ),
+    (
+        "resolve",
+        "resolve [--json] [FILE]",
+        "\
+Says which template each entity key with a temporary key means, before an E/R data group is stored: the one before it with this name and
+this number. A line for each such key has the relation, where it begins and which side of it the key is, source or target; the name and
+the number; and the template: where it stands, its rank, which is how many templates and relations stand before it in the group, and its
+first fields. Entity keys with template keys are not asked.
+The exit status is 1 for a refusal: a file that the check refuses, a root that is no E/R data group, more than 256 templates with temporary
+keys, two templates with one name and temporary key, a key without a template. The words then name the unit and what to ask the sender.",
+    ),
     ("help", "help [--man] [COMMAND]", "This text, or that of one command. --man writes the manual page."),
 ];
 
@@ -111,8 +122,9 @@ pub fn about(command: Option<&str>) -> Result<String, Stop> {
 /// The manual page, in the language of man.
 pub fn man() -> String {
     let plain = |text: &str| text.replace('\\', "\\e").replace('-', "\\-").replace('\'', "\\(aq");
-    let mut page =
-        String::from(".TH CDF 1\n.SH NAME\ncdf \\- check, explain, show, list and rescue Common Data Format streams\n.SH SYNOPSIS\n");
+    let mut page = String::from(
+        ".TH CDF 1\n.SH NAME\ncdf \\- check, explain, show, list, rescue and resolve Common Data Format streams\n.SH SYNOPSIS\n",
+    );
     page.push_str(".B cdf\nCOMMAND [OPTION].. [FILE]..\n.SH DESCRIPTION\n");
     let lead = LEAD.split("\n\n").nth(1).unwrap_or_default();
     page.push_str(&plain(lead));

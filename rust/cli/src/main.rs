@@ -14,6 +14,7 @@ mod list;
 mod lookup;
 mod output;
 mod rescue;
+mod resolve;
 mod saved;
 mod show;
 mod states;
@@ -81,6 +82,7 @@ fn run(given: Vec<std::ffi::OsString>, out: &mut Out) -> Result<End, Stop> {
         args::Command::Explain => explain::run(&mut args, out)?,
         args::Command::Lookup => lookup::run(&mut args, out)?,
         args::Command::Rescue => rescue::run(&mut args, out)?,
+        args::Command::Resolve => resolve::run(&mut args, out)?,
         args::Command::Show => show::run(&mut args, out)?,
         args::Command::States => states::run(&mut args, out)?,
     };

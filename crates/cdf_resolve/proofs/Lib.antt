@@ -1,0 +1,4 @@
+pub mod Finding
+pub mod Keeping
+pub mod Walking
+pub mod Answering

@@ -1,0 +1,9 @@
+pub mod Leading
+pub mod Pairing
+pub mod Meaning
+pub mod Passing
+pub mod Deciding
+pub mod Saying
+pub mod Claiming
+pub mod Exact
+pub mod Proved

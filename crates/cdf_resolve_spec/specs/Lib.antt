@@ -1,0 +1,5 @@
+pub mod Resolve
+pub mod Pass
+pub mod Words
+pub mod Samples
+pub mod Claims
