@@ -24,7 +24,7 @@ use Rattle.cdf_builder_spec.specs.declared.Begun.{Begun}
 use Rattle.cdf_builder_spec.proofs.Fitting.{fitting}
 use Rattle.cdf_builder_spec.proofs.Joining.{joined-is}
 use Rattle.cdf_builder_spec.proofs.Replying.{call-fitting, unit-size}
-use Rattle.cdf_builder_join.specs.Parts.{ownFault, groupId}
+use Rattle.cdf_builder_faults.specs.Parts.{ownFault, groupId}
 use Rattle.cdf_reader_spec.proofs.Counted.{length-held}
 use Rattle.cdf_builder_spec.specs.Slots.{noBegun, units, placed}
 use Rattle.cdf_builder_decide.specs.Grown.{decisionOf}

@@ -6,12 +6,12 @@ ghost use Rattle.cdf_builder_spec.specs.Requests.{unit, group, joining, joinNum
 ghost use Rattle.cdf_builder_spec.specs.Calls.{decideOf};
 ghost use Rattle.cdf_builder_spec.specs.Slots.{units, placed};
 ghost use Rattle.cdf_builder_decide.specs.Grown.{decisionOf, grownBy, Growable, growing};
+use cdf_builder_faults::group_id;
+use cdf_builder_faults::own_fault;
+use cdf_builder_faults::room;
 use cdf_builder_fit::is_fit;
 use cdf_builder_join::Joined;
-use cdf_builder_join::group_id;
 use cdf_builder_join::join;
-use cdf_builder_join::own_fault;
-use cdf_builder_join::room;
 use cdf_builder_spec::Begun;
 use cdf_builder_spec::Parts;
 use cdf_unit_prefix::Edition;

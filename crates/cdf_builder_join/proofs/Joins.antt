@@ -12,7 +12,7 @@ use Rattle.cdf_builder_spec.specs.Requests.{joining, ending, completed, joinNum
 use Rattle.cdf_builder_spec.specs.Slots.{noBegun, units}
 use Rattle.cdf_builder_spec.specs.declared.Begun.{Begun}
 use Rattle.cdf_builder_spec.proofs.Joining.{joins-over}
-use Rattle.cdf_builder_join.specs.Parts.{outside}
+use Rattle.cdf_builder_faults.specs.Parts.{outside}
 use Rattle.cdf_builder_join.proofs.Parts.{units-first}
 
 passed-by : (id : ℕ) (o : Begun) (os : List Begun) → admit (o .state) id ≡ 0 →

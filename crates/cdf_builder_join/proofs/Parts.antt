@@ -7,7 +7,7 @@ use borrow.Author.Tests.{ne-eqb}
 use Rattle.cdf_reader_spec.specs.Slots.{aroundOf, heldOf}
 use Rattle.cdf_builder_spec.specs.Slots.{units}
 use Rattle.cdf_builder_spec.specs.declared.Begun.{Begun}
-use Rattle.cdf_builder_join.specs.Parts.{outside}
+use Rattle.cdf_builder_faults.specs.Parts.{outside}
 
 module _ (o1 o2 o3 : Begun) where
   -- The unit around the innermost is the innermost of one unit less.

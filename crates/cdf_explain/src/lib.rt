@@ -7,7 +7,7 @@ ghost use Rattle.cdf_reader_spec.specs.Slots.{openUnits};
 ghost use Rattle.cdf_explain_spec.specs.Why.{whyOf};
 ghost use Rattle.cdf_explain.specs.Numbers.{explainedBy};
 ghost use Rattle.cdf_explain.specs.Parts.{level, maysAt, choicesOf, toldAt};
-use cdf_reader_advance::advance;
+use cdf_reader_advance_by::advance;
 use cdf_reader_close::close;
 use cdf_reader_close::no_open;
 use cdf_reader_cursor::first_as;

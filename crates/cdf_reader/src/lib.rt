@@ -13,7 +13,7 @@ ghost use Rattle.cdf_reader_advance.specs.Advancing.{advancedBy};
 ghost use Rattle.cdf_reader.specs.View.{view, replyOf, partAt, bytesOf, noPlace};
 ghost use Rattle.cdf_reader.specs.Uses.{placeKept};
 ghost use Rattle.cdf_reader.specs.Cursors.{cursorOf, answerOf};
-use cdf_reader_advance::advance;
+use cdf_reader_advance_by::advance;
 use cdf_reader_close::close;
 use cdf_reader_close::rank_at;
 use cdf_reader_cursor::Cursor;

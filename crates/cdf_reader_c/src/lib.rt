@@ -4,7 +4,7 @@ ghost use Rattle.cdf_reader_spec.specs.Calls.{noPart, abnormalEnd};
 ghost use Rattle.cdf_reader_spec.specs.declared.Call.the-variants.{Start, Skip, GetStream, Previous};
 ghost use Rattle.cdf_reader.specs.View.{noPlace};
 ghost use Rattle.cdf_reader_numbers.specs.Numbers.{numbersOf, answerNumbers, Called};
-use cdf_reader_numbers::answer_to;
+use cdf_reader_call_numbers::answer_to;
 use cdf_reader_spec::Call;
 
 // FIRST: judges the root and hands it out. A refused one writes 25 zeros as the place.

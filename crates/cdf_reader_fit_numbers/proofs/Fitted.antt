@@ -21,7 +21,7 @@ use Rattle.cdf_reader_fit.proofs.Lows.{by-quotient}
 use Rattle.cdf_reader_fit.proofs.Parted.{no, past-not, end-not, bounds-not, last-not, ranks-not, by-chain}
 use Rattle.cdf_reader.specs.View.{view}
 use Rattle.cdf_reader.specs.declared.Place.{Place}
-use Rattle.cdf_reader_fit_numbers.specs.Held.{held, lasts}
+use Rattle.cdf_reader_open_numbers.specs.Held.{held, lasts}
 
 every-same : {A : Type 0} (f g : A → Bool) → ((x : A) → f x ≡ g x) → (xs : List A) → every f xs ≡ every g xs
 unfolding every

@@ -5,71 +5,17 @@ ghost use Rattle.cdf_unit_prefix.specs.declared.Edition.the-variants.{First};
 ghost use Rattle.cdf_reader_spec.specs.Place.{fits};
 ghost use Rattle.cdf_reader.specs.View.{view};
 ghost use Rattle.cdf_reader_numbers.specs.Numbers.{placeFrom};
-ghost use Rattle.cdf_reader_fit_numbers.specs.Held.{held, lasts};
-use cdf_reader_kinds::is_fourfold;
-use cdf_reader_kinds::is_pair;
-use cdf_reader_kinds::is_triple;
+ghost use Rattle.cdf_reader_open_numbers.specs.Held.{held, lasts};
 use cdf_reader_last::is_bounded;
 use cdf_reader_last::is_skippable;
-use cdf_reader_open::is_outermost;
 use cdf_reader_open::is_past;
+use cdf_reader_open_numbers::holds_four;
+use cdf_reader_open_numbers::holds_one;
+use cdf_reader_open_numbers::holds_three;
+use cdf_reader_open_numbers::holds_two;
 use cdf_unit_list::Open;
 use cdf_unit_list::Unit;
 use cdf_unit_prefix::Edition;
-
-// One open unit.
-fn holds_one(n: usize, most: usize, p: &[u64; 25]) -> bool
-    ensures { λ r. ⌜ r ≡ held n most (placeFrom (now (p .entry))) 1 ⌝ }
-{
-    let top = Open {
-        state: p[2] as usize,
-        start: p[3] as usize,
-        end: p[4] as usize,
-    };
-    is_outermost(n, top) & (p[20] as usize <= most)
-}
-
-// Two.
-fn holds_two(n: usize, most: usize, p: &[u64; 25]) -> bool
-    ensures { λ r. ⌜ r ≡ held n most (placeFrom (now (p .entry))) 2 ⌝ }
-{
-    if !is_pair(p[5] as usize, p[2] as usize) {
-        return false;
-    }
-    let inner = is_past(Edition::First, p[6] as usize, p[3] as usize) & (p[4] <= p[7]);
-    let outer = (p[6] as usize == 0) & (p[7] as usize == n);
-    (inner & outer) & ((p[20] as usize <= most) & (p[21] as usize <= most))
-}
-
-// Three.
-fn holds_three(n: usize, most: usize, p: &[u64; 25]) -> bool
-    ensures { λ r. ⌜ r ≡ held n most (placeFrom (now (p .entry))) 3 ⌝ }
-{
-    if !is_triple(p[5] as usize, p[8] as usize, p[2] as usize) {
-        return false;
-    }
-    let inner = is_past(Edition::First, p[9] as usize, p[3] as usize) & (p[4] <= p[10]);
-    let middle = is_past(Edition::First, p[6] as usize, p[9] as usize) & (p[10] <= p[7]);
-    let outer = (p[6] as usize == 0) & (p[7] as usize == n);
-    (inner & (middle & outer))
-        & ((p[20] as usize <= most) & ((p[22] as usize <= most) & (p[21] as usize <= most)))
-}
-
-// Four.
-fn holds_four(n: usize, most: usize, p: &[u64; 25]) -> bool
-    ensures { λ r. ⌜ r ≡ held n most (placeFrom (now (p .entry))) 4 ⌝ }
-{
-    if !is_fourfold(p[5] as usize, p[8] as usize, p[11] as usize, p[2] as usize) {
-        return false;
-    }
-    let inner = is_past(Edition::First, p[12] as usize, p[3] as usize) & (p[4] <= p[13]);
-    let third = is_past(Edition::First, p[9] as usize, p[12] as usize) & (p[13] <= p[10]);
-    let second = is_past(Edition::First, p[6] as usize, p[9] as usize) & (p[10] <= p[7]);
-    let outer = (p[6] as usize == 0) & (p[7] as usize == n);
-    (inner & (third & (second & outer)))
-        & ((p[20] as usize <= most)
-            & ((p[23] as usize <= most) & ((p[22] as usize <= most) & (p[21] as usize <= most))))
-}
 
 // So many as the count says.
 fn holds(n: usize, most: usize, p: &[u64; 25]) -> bool

@@ -8,7 +8,7 @@ use lib.Dec.{leb}
 use Rattle.cdf_unit_table.specs.States.{unitOf, rootKind, admitsKind, streamNew, streamSkipped, erNew, erSkipped, fileSkipped}
 use Rattle.cdf_unit_table.specs.States.{callSkipped, templateNew, relationNew, orderedSkipped, entityNew, entitySkipped}
 use Rattle.cdf_unit_table.proofs.Bools.{both}
-use Rattle.cdf_reader_spec.proofs.Nesting.{root-is, nestsBy, nests-is}
+use Rattle.cdf_unit_nesting.proofs.Nesting.{root-is, nestsBy, nests-is}
 
 -- A state in a range; what that says of another range.
 abbrev In : ℕ → ℕ → ℕ → Bool

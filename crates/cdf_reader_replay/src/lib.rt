@@ -10,16 +10,19 @@ ghost use Rattle.cdf_unit_data.specs.Standing.{nameRow};
 ghost use Rattle.cdf_reader_spec.specs.Ranking.{depthAt};
 ghost use Rattle.cdf_reader_spec.specs.Calls.{callOf};
 ghost use Rattle.cdf_reader_cursor.specs.Outcomes.{cursorPlace, outcomeReply};
-ghost use Rattle.cdf_reader_numbers.specs.Taking.{partBy};
-ghost use Rattle.cdf_reader_replay.specs.Replay.{knownCode, callBy, ranOf, entryOf, logAfter, Replayed};
-ghost use Rattle.cdf_reader_replay.specs.Holding.{Held, toldOf};
-use cdf_reader_advance::advance;
+ghost use Rattle.cdf_reader_replay_spec.specs.Replay.{ranOf, entryOf, logAfter, Replayed};
+ghost use Rattle.cdf_reader_replay_spec.specs.Holding.{Held, toldOf};
+use cdf_reader_advance_by::advance;
 use cdf_reader_cursor::Cursor;
 use cdf_reader_cursor::Outcome;
 use cdf_reader_cursor::first_as;
 use cdf_reader_cursor::no_cursor;
 use cdf_reader_cursor::pass;
 use cdf_reader_cursor::refused;
+use cdf_reader_replay_codes::Span;
+use cdf_reader_replay_codes::call_by;
+use cdf_reader_replay_codes::is_known;
+use cdf_reader_replay_codes::part_of;
 use cdf_reader_spec::Call;
 use cdf_reader_use::has_use;
 use cdf_unit_data::row::NAME_BYTES;
@@ -30,38 +33,6 @@ use cdf_unit_prefix::Edition;
 pub struct Logged {
     pub number: usize,
     pub count: usize,
-}
-
-// A part of the stream.
-struct Span {
-    start: usize,
-    size: usize,
-}
-
-// Whether it is the code of a call.
-fn is_known(code: u8) -> bool
-    ensures { λ r. ⌜ r ≡ knownCode code ⌝ }
-{
-    (1 <= code) & (code <= 5)
-}
-
-// The call of a known code.
-fn call_by(code: u8) -> Call
-    ensures { λ r. ⌜ r ≡ callBy code ⌝ }
-{
-    if code == 1 {
-        return Call::Start;
-    }
-    if code == 2 {
-        return Call::Next;
-    }
-    if code == 3 {
-        return Call::Skip;
-    }
-    if code == 4 {
-        return Call::GetStream;
-    }
-    Call::Previous
 }
 
 // How deep the last unit of a place stands: it is the innermost by its start, or stands in that one.
@@ -105,23 +76,6 @@ fn turn(c: Cursor, row: &[u8; 256], call: Call, s: &[u8]) -> Outcome
                 cursor: c,
             }
         }
-    }
-}
-
-// The part that goes with a code and its call's number, with the last unit's start and end. The test is one, and by the code: the loop is
-// faster so.
-fn part_of(code: u8, number: usize, start: usize, end: usize) -> Span
-    ensures { λ r. ⌜ record { start = r .start; size = r .size } ≡ partBy (callBy code) number start end ⌝ }
-{
-    if !((code == 4) & (number == 0)) {
-        return Span { start: 0, size: 0 };
-    }
-    if end < start {
-        return Span { start, size: 0 };
-    }
-    Span {
-        start,
-        size: end - start,
     }
 }
 

@@ -1,5 +1,5 @@
 // A run of the reader's calls, for programs in C.
-ghost use Rattle.cdf_reader_replay.specs.Replay.{Replayed};
+ghost use Rattle.cdf_reader_replay_spec.specs.Replay.{Replayed};
 use cdf_reader_replay::replay;
 
 // A run of calls, by their codes: the number; in answer how many entries of the log were written.

@@ -1,4 +1,3 @@
-pub mod Nesting
 pub mod Fitting
 pub mod Opened
 pub mod Suffix

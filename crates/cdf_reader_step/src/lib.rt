@@ -9,7 +9,7 @@ ghost use Rattle.cdf_reader_spec.specs.Calls.{nextOf, callOf, isStart};
 ghost use Rattle.cdf_reader_spec.specs.declared.Call.the-variants.{Previous};
 ghost use Rattle.cdf_reader_cursor.specs.Outcomes.{cursorPlace, outcomeReply};
 ghost use Rattle.cdf_reader_step.specs.Kept.{cursorKept};
-use cdf_reader_advance::advance;
+use cdf_reader_advance_by::advance;
 use cdf_reader_cursor::Cursor;
 use cdf_reader_cursor::Outcome;
 use cdf_reader_cursor::first_as;

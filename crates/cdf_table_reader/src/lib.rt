@@ -10,7 +10,7 @@ pub use crate::table::TABLE;
 use cdf_reader::Answer;
 use cdf_reader::Place;
 use cdf_reader::answered;
-use cdf_table_reader_step::first_by;
+use cdf_table_reader_first::first_by;
 use cdf_table_reader_step::next_by;
 use cdf_unit_prefix::Edition;
 

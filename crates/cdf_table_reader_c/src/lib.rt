@@ -6,7 +6,7 @@ ghost use Rattle.cdf_reader_spec.specs.declared.Call.the-variants.{Start, Next,
 ghost use Rattle.cdf_reader.specs.View.{replyOf};
 ghost use Rattle.cdf_reader_numbers.specs.Numbers.{answerNumbers, Called};
 use cdf_reader::Answer;
-use cdf_reader_numbers::answer_to;
+use cdf_reader_call_numbers::answer_to;
 use cdf_reader_numbers::place_from;
 use cdf_reader_numbers::write_place;
 use cdf_reader_spec::Call;

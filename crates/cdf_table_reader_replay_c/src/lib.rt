@@ -1,5 +1,5 @@
 // A run of the table reader's calls, for programs in C.
-ghost use Rattle.cdf_table_reader_replay.specs.Replay.{TableReplayed};
+ghost use Rattle.cdf_table_reader_replay_spec.specs.Replay.{TableReplayed};
 use cdf_table_reader_replay::table_replay;
 
 // A run of calls, by their codes: the number; in answer how many entries of the log were written.

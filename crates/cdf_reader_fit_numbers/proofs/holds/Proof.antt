@@ -1,8 +1,8 @@
 -- By the count.
 use mathlib.Core.Path.{sym, ap, _∙_}
 use Rattle.cdf_reader_numbers.specs.Numbers.{placeFrom}
-use Rattle.cdf_reader_fit_numbers.specs.Held.{held}
-use Rattle.cdf_reader_fit_numbers.proofs.Holding.{other}
+use Rattle.cdf_reader_open_numbers.specs.Held.{held}
+use Rattle.cdf_reader_open_numbers.proofs.Holding.{other}
 use borrow.Author.Needs.{needs}
 use Rattle.cdf_reader_fit_numbers.proofs.holds.Statement.{statement}
 use Rattle.cdf_reader_fit_numbers.proofs.holds.Tie as tie

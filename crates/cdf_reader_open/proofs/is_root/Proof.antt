@@ -1,5 +1,5 @@
 -- By the law of its range.
-use Rattle.cdf_reader_spec.proofs.Nesting.{root-is}
+use Rattle.cdf_unit_nesting.proofs.Nesting.{root-is}
 use Rattle.cdf_reader_open.proofs.is_root.Statement.{statement}
 use Rattle.cdf_reader_open.proofs.is_root.Tie as tie
 

@@ -1,5 +1,5 @@
 -- By the law of the ranges, with the tests on the way.
-use Rattle.cdf_reader_spec.proofs.Nesting.{nestsBy, nests-is}
+use Rattle.cdf_unit_nesting.proofs.Nesting.{nestsBy, nests-is}
 use Rattle.cdf_reader_open.proofs.nests.Statement.{statement}
 use Rattle.cdf_reader_open.proofs.nests.Tie as tie
 

@@ -8,7 +8,7 @@ use borrow.Author.Tests.{not-true, not-false}
 use lib.ListN.{length, length-drop}
 use Rattle.cdf_unit_table.proofs.Parts.{rest}
 use Rattle.cdf_unit_data.specs.Standing.{nameRow}
-use Rattle.cdf_reader_replay.proofs.Replaying.{Running, long, fits-more, begun, on, finished, ended-unknown, ended-all}
+use Rattle.cdf_reader_replay_spec.proofs.Replaying.{Running, long, fits-more, begun, on, finished, ended-unknown, ended-all}
 use Rattle.cdf_reader_replay.proofs.run.Statement.{statement}
 use Rattle.cdf_reader_replay.proofs.run.Tie as tie
 

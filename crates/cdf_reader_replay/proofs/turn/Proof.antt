@@ -8,7 +8,7 @@ use Rattle.cdf_unit_prefix.specs.Layout.{layoutOf}
 use Rattle.cdf_unit_prefix.specs.declared.Edition.the-variants.{First}
 use Rattle.cdf_reader_spec.specs.Calls.{isStart}
 use Rattle.cdf_reader_step.proofs.Asking.{Use, ready, useless, fit-needed, counts, starts, steps, skips, takes, again}
-use Rattle.cdf_reader_replay.proofs.Holding.{may-go, goes-on}
+use Rattle.cdf_reader_replay_spec.proofs.Holding.{may-go, goes-on}
 use Rattle.cdf_reader_replay.proofs.turn.Statement.{statement}
 use Rattle.cdf_reader_replay.proofs.turn.Tie as tie
 

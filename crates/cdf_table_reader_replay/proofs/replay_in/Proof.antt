@@ -1,7 +1,7 @@
 -- The test of the room, and the run.
 use native.Mathlib.Omega.{arith}
 use borrow.Author.Needs.{needs}
-use Rattle.cdf_table_reader_replay.proofs.Turning.{leaves-none, leaves-all}
+use Rattle.cdf_table_reader_replay_spec.proofs.Turning.{leaves-none, leaves-all}
 use Rattle.cdf_table_reader_replay.proofs.replay_in.Statement.{statement}
 use Rattle.cdf_table_reader_replay.proofs.replay_in.Tie as tie
 

@@ -8,9 +8,9 @@ use borrow.Author.Needs.{needs}
 use borrow.Author.Tests.{not-true, not-false}
 use lib.ListN.{length, getD, length-drop, length-map}
 use Rattle.cdf_unit_table.proofs.Parts.{rest}
-use Rattle.cdf_reader_replay.proofs.Replaying.{Running, long, begun, finished, ended-unknown, ended-all}
-use Rattle.cdf_table_reader_replay.specs.Replay.{heard}
-use Rattle.cdf_table_reader_replay.proofs.Turning.{goes, unheard, turned}
+use Rattle.cdf_reader_replay_spec.proofs.Replaying.{Running, long, begun, finished, ended-unknown, ended-all}
+use Rattle.cdf_table_reader_replay_spec.specs.Replay.{heard}
+use Rattle.cdf_table_reader_replay_spec.proofs.Turning.{goes, unheard, turned}
 use Rattle.cdf_table_reader_replay.proofs.run_by.Statement.{statement}
 use Rattle.cdf_table_reader_replay.proofs.run_by.Tie as tie
 

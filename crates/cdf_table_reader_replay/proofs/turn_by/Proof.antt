@@ -1,6 +1,6 @@
 -- By the code (proofs/Turning).
 use borrow.Author.Needs.{needs}
-use Rattle.cdf_table_reader_replay.proofs.Turning.{starts, nexts, skips}
+use Rattle.cdf_table_reader_replay_spec.proofs.Turning.{starts, nexts, skips}
 use Rattle.cdf_table_reader_replay.proofs.turn_by.Statement.{statement}
 use Rattle.cdf_table_reader_replay.proofs.turn_by.Tie as tie
 

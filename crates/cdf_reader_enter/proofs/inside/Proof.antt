@@ -1,0 +1,10 @@
+-- The parts as they are given.
+use mathlib.Core.Path.{refl}
+use Rattle.cdf_reader_enter.proofs.inside.Statement.{statement}
+use Rattle.cdf_reader_enter.proofs.inside.Tie as tie
+
+returns : tie.Need-returns
+returns c = refl
+
+pub inside-spec : {M : Type 1} → statement M
+inside-spec = tie.close (tie.spec returns)
