@@ -1,4 +1,4 @@
--- The unit at the front, by what judge and check tell of it.
+-- The unit at the front, by what its prefix and the check tell of it.
 use Prim.Native.Nat.{ℕ, _≤_}
 use mathlib.Core.Path.{_≡_, refl, sym, ap, _∙_}
 use mathlib.Core.Bool.{false, true}
@@ -15,8 +15,8 @@ use Rattle.cdf_unit_prefix.specs.Rules.{headOf}
 use Rattle.cdf_unit_prefix.specs.declared.Header.{Header}
 use Rattle.cdf_unit_prefix.specs.declared.Header.the-variants.{Stop, Prefix}
 use Rattle.cdf_unit_judge.specs.Judge.{judgeHead, judgeBy, judgeIn, judgeOf}
-use Rattle.cdf_unit_judge.specs.declared.Judged.the-variants.{Fault, Found}
-use Rattle.cdf_unit_judge.proofs.Placed.{placed}
+use Rattle.cdf_unit_judge.specs.declared.Judged.the-variants.{Fault}
+use Rattle.cdf_unit_judge.proofs.Placed.{headed}
 use Rattle.cdf_unit_judge.proofs.Faults.{told}
 use Rattle.cdf_unit_list.specs.Units.{listBy, listingIn}
 use Rattle.cdf_unit_list.specs.Check.{Verdict, checkIn}
@@ -38,7 +38,7 @@ module _ (l : Layout) (s : List ℕ) where
   unfolding checkIn listBy
   faulty e = rw e
 
-  pub none-judged : {n k : ℕ} → judgeOf l false state s ≡ Fault n k → 0 ≡ wholeAt l s
+  none-judged : {n k : ℕ} → judgeOf l false state s ≡ Fault n k → 0 ≡ wholeAt l s
   none-judged {n} e = none-by n (faulty e) (λ z. let t = told l false s state e in omega (arith, t .low))
 
   -- Where a prefix breaks a rule, or its unit is not admitted, no unit stands.
@@ -56,10 +56,10 @@ module _ (l : Layout) (s : List ℕ) where
   unfolding asAnswer listingIn
   none-checked n at p q = none-by n (sym (ap (λ (x : Verdict). x .number) p)) (refused-numbered l s false state n at q)
 
-  module _ {id action own len next : ℕ} (e : judgeOf l false state s ≡ Found id action own len next) where
+  module _ {id action len : ℕ} (e : headOf l false s ≡ Prefix id action len) where
     pub whole-within : len ≤ length s
-    whole-within = placed l false state s e .high
+    whole-within = headed l false s id action len e .fit .high
 
     pub whole-checked : (n : ℕ) → asAnswer (Accepted n) ≡ checkIn l state s → len ≡ wholeAt l s
     unfolding wholeAt asAnswer
-    whole-checked n p = placed l false state s e .isLength ∙ rw (← ap (λ (x : Verdict). x .number) p)
+    whole-checked n p = headed l false s id action len e .isLength ∙ rw (← ap (λ (x : Verdict). x .number) p)

@@ -15,8 +15,6 @@ use cdf_builder_write::write_length;
 use cdf_builder_write::write_unit;
 use cdf_check::Checked;
 use cdf_check::check_nested;
-use cdf_unit_judge::Judged;
-use cdf_unit_judge::judge;
 use cdf_unit_prefix::Edition;
 use cdf_unit_prefix::Header;
 use cdf_unit_prefix::head;
@@ -44,22 +42,19 @@ struct Found {
     to: [usize; 64],
 }
 
-// The unit that stands whole at the front of s and that an E/R group may hold: its length; 0 where there is none.
+// The unit that stands whole at the front of s and that an E/R group may hold: its length; 0 where there is none. Its prefix tells the
+// length, and the check alone judges it.
 fn whole_at(edition: Edition, s: &[u8]) -> usize
     ensures is { λ r. ⌜ r ≡ wholeAt (layoutOf edition) (now (s .entry)) ⌝ }
     ensures within { λ r. ⌜ r ≤ length (now (s .entry)) ⌝ }
 {
-    match judge(edition, ER_NEW, s) {
-        Judged::Fault {
-            number: _,
-            offset: _,
-        } => 0,
-        Judged::Found {
+    let front = head(edition, false, s);
+    match front {
+        Header::Stop(_) => 0,
+        Header::Prefix {
             id: _,
             action: _,
-            own: _,
             length,
-            state: _,
         } => match check_nested(edition, ER_NEW, s) {
             Checked::Refused {
                 number: _,

@@ -1,20 +1,20 @@
--- By what judge and check tell of the unit at the front.
+-- By what its prefix and the check tell of the unit at the front.
 use mathlib.Core.Path.{sym, _∙_}
 use native.Mathlib.Omega.{arith}
 use borrow.Author.Needs.{needs}
 use Rattle.cdf_unit_table.specs.States.{nothing}
-use Rattle.cdf_rescue.proofs.Units.{none-judged, none-checked, whole-within, whole-checked}
+use Rattle.cdf_rescue.proofs.Units.{none-headed, none-checked, whole-within, whole-checked}
 use Rattle.cdf_rescue.proofs.whole_at.Statement.{statement}
 use Rattle.cdf_rescue.proofs.whole_at.Tie as tie
 
-judge-requires : tie.Need-judge-requires
-judge-requires c κs = search needs
+head-requires : tie.Need-head-requires
+head-requires c κs = search needs
 
 enum-told : tie.Need-enum-told
 enum-told c = search needs
 
-enum-known-length : tie.Need-enum-known-length
-enum-known-length c = search needs
+enum-known-front : tie.Need-enum-known-front
+enum-known-front c = search needs
 
 check-nested-requires : tie.Need-check-nested-requires
 check-nested-requires c κs = search needs
@@ -29,7 +29,7 @@ returns : tie.Need-returns
 unfolding nothing
 returns c =
     let told = c .before .before in
-    (none-judged _ _ (sym (told .judge .ensures) ∙ c .enum-told .given .1), omega arith)
+    (sym (none-headed _ _ (rw (← told .head .ensures, c .enum-told .given .1))), omega arith)
 
 returns-2 : tie.Need-returns-2
 unfolding nothing
@@ -43,16 +43,16 @@ unfolding nothing
 returns-3 c =
     let told = c .before .before in
     let found = told .before .before in
-    let e = sym (found .before .before .judge .ensures) ∙ found .length .given .1 in
+    let e = sym (found .before .before .head .ensures) ∙ found .front .given .1 in
     (whole-checked _ _ e _ (rw (c .enum-told3 .given .1) at (told .check-nested .ensures .0)), whole-within _ _ e)
 
 pub whole-at-spec : {M : Type 1} → statement M
 whole-at-spec =
     tie.close
     (tie.spec
-    judge-requires
+    head-requires
     enum-told
-    enum-known-length
+    enum-known-front
     check-nested-requires
     enum-told-2
     enum-told-3
