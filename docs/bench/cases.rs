@@ -11,21 +11,24 @@ pub struct Request {
     end: usize,
 }
 
-/// A stream with one value more than that of its case, and the units of that value: its template, the template's first key
-/// and the field.
-pub struct Second {
+/// Where the value of a field stands that is looked up in two streams, in the order of `Case::asked`. The names go behind that of the
+/// code; the first is the code's own row.
+pub const LOOKUPS: [&str; 4] = ["", ", early in the first", ", in the middle of the first", ", in neither"];
+
+/// A stream that has the value of a field, and the units of that value: its template, the template's first key and the field.
+pub struct Holder {
     pub stream: Vec<u8>,
     pub units: [Unit; 3],
 }
 
-impl Second {
+impl Holder {
     #[inline(always)]
     pub fn question(&self) -> Question<'_> {
         question(&self.stream, &self.units)
     }
 }
 
-/// What asks for the value of a field, by the units of a stream that `Second` says.
+/// What asks for the value of a field, by the units of a stream that `Holder` says.
 #[inline(always)]
 pub fn question<'a>(stream: &'a [u8], [template, key, field]: &[Unit; 3]) -> Question<'a> {
     Question {
@@ -36,14 +39,35 @@ pub fn question<'a>(stream: &'a [u8], [template, key, field]: &[Unit; 3]) -> Que
     }
 }
 
+/// Copies of a stream with one value more, which is looked up: last, in its last template; early, behind its first field; and in the middle.
+pub struct Asked {
+    pub last: Holder,
+    pub early: Holder,
+    pub middle: Holder,
+}
+
+impl Asked {
+    /// The two streams of a lookup, with its question, for the stream that these are copies of.
+    #[inline(always)]
+    pub fn lookup<'a, const AT: usize>(&'a self, stream: &'a [u8]) -> ([&'a [u8]; 2], Question<'a>) {
+        let of = |first, second, holder: &'a Holder| ([first, second], holder.question());
+        match AT {
+            0 => of(stream, &self.last.stream, &self.last),
+            1 => of(&self.early.stream, stream, &self.early),
+            2 => of(&self.middle.stream, stream, &self.middle),
+            _ => of(stream, stream, &self.last),
+        }
+    }
+}
+
 /// A stream, a refused copy, the codes that replay the stream to its end, the requests that build it, and of an E/R group
-/// to be timed the second stream of its lookup and a copy with bytes lost.
+/// to be timed what its lookups are asked and a copy with bytes lost.
 pub struct Case {
     pub stream: Vec<u8>,
     pub refused: Vec<u8>,
     pub calls: Vec<u8>,
     pub requests: Vec<Request>,
-    pub second: Option<Second>,
+    pub asked: Option<Asked>,
     pub lost: Option<Vec<u8>>,
 }
 
@@ -62,7 +86,7 @@ impl Case {
             data: unit.start + 6,
             end: if opens(unit.id) { unit.own } else { unit.end },
         });
-        Case { refused, calls, requests: requests.collect(), stream, second: None, lost: None }
+        Case { refused, calls, requests: requests.collect(), stream, asked: None, lost: None }
     }
 
     #[inline(always)]

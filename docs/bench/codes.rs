@@ -1,7 +1,7 @@
 //! The codes that are timed, by part: the first two of a part are plain Rust, inlined and out of line.
 
 use crate::archive::{proved_walk, Archive, Batches, Explanation, Found, Now, Reads, Rescued, ENTRY};
-use crate::cases::{Case, Second};
+use crate::cases::{Asked, Case, LOOKUPS};
 use crate::iterator;
 use crate::plain::{check, explain, replay, walk, INLINED, OUT_OF_LINE};
 use crate::plain_lookup::lookup;
@@ -137,25 +137,38 @@ fn counted_listing<A: Archive>(case: &Case, scratch: &mut Scratch) -> u64 {
     A::listing(&case.stream, &mut scratch.text[..1], &mut answer) + answer[0]
 }
 
-/// The second stream of a case that a lookup is timed on.
+/// What the lookups of a case are asked that they are timed on.
 #[inline(always)]
-fn second(case: &Case) -> &Second {
-    case.second.as_ref().expect("a lookup is timed on two streams")
+fn asked(case: &Case) -> &Asked {
+    case.asked.as_ref().expect("a lookup is timed on E/R groups")
 }
 
-fn plain_lookup<const CALLS: bool>(case: &Case, scratch: &mut Scratch) -> u64 {
-    let second = second(case);
-    lookup::<CALLS>(&case.stream, &second.stream, &second.question(), &mut scratch.found)
+/// `AT` says where the value stands, by `LOOKUPS`.
+fn plain_lookup<const CALLS: bool, const AT: usize>(case: &Case, scratch: &mut Scratch) -> u64 {
+    let ([first, second], question) = asked(case).lookup::<AT>(&case.stream);
+    lookup::<CALLS>(first, second, &question, &mut scratch.found)
 }
 
-fn proved_lookup<A: Archive>(case: &Case, scratch: &mut Scratch) -> u64 {
-    let second = second(case);
-    A::lookup(&case.stream, &second.stream, &second.question(), &mut scratch.found)
+fn proved_lookup<A: Archive, const AT: usize>(case: &Case, scratch: &mut Scratch) -> u64 {
+    let ([first, second], question) = asked(case).lookup::<AT>(&case.stream);
+    A::lookup(first, second, &question, &mut scratch.found)
 }
 
-fn both_checks<A: Archive>(case: &Case, _: &mut Scratch) -> u64 {
+fn both_checks<A: Archive, const AT: usize>(case: &Case, _: &mut Scratch) -> u64 {
+    let ([first, second], _) = asked(case).lookup::<AT>(&case.stream);
     let (mut one, mut other) = ([0], [0]);
-    A::check(&case.stream, &mut one) + A::check(&second(case).stream, &mut other) + one[0] + other[0]
+    A::check(first, &mut one) + A::check(second, &mut other) + one[0] + other[0]
+}
+
+fn lookup_bytes<const AT: usize>(case: &Case) -> usize {
+    case.asked.as_ref().map_or(0, |asked| asked.lookup::<AT>(&case.stream).0.iter().map(|stream| stream.len()).sum())
+}
+
+fn lookup_part<const AT: usize>() -> Part {
+    let name = format!("lookup{}", LOOKUPS[AT]);
+    let mut part = named("lookup", &name, plain_lookup::<INLINED, AT>, plain_lookup::<OUT_OF_LINE, AT>);
+    part.bytes = lookup_bytes::<AT>;
+    part
 }
 
 fn plain_rescue<const CALLS: bool>(case: &Case, scratch: &mut Scratch) -> u64 {
@@ -180,26 +193,33 @@ fn proved_rescue_lost<A: Archive>(case: &Case, scratch: &mut Scratch) -> u64 {
     A::rescue(lost(case), &mut scratch.buffer, &mut scratch.rescued)
 }
 
-fn version<A: Archive>(parts: &mut [Part; 9]) {
-    let runs: [(&str, fn(&Case, &mut Scratch) -> u64); 9] = [
+fn version<A: Archive>(parts: &mut [Part; 12]) {
+    let lookup = |at: usize| format!("cdf_lookup{}", LOOKUPS[at]);
+    let runs: [(&str, fn(&Case, &mut Scratch) -> u64); 12] = [
         ("cdf_check", proved_check::<A>),
         ("cdf_explain", proved_explain::<A>),
         ("cdf_first, cdf_next, from C", |case, _| A::walk(&case.stream)),
         ("cdf_replay", proved_replay::<A>),
         ("cdf_build_*", proved_build::<A>),
         ("cdf_listing", proved_listing::<A>),
-        ("cdf_lookup", proved_lookup::<A>),
+        (&lookup(0), proved_lookup::<A, 0>),
         ("cdf_rescue", proved_rescue::<A>),
         ("cdf_rescue, bytes lost", proved_rescue_lost::<A>),
+        (&lookup(1), proved_lookup::<A, 1>),
+        (&lookup(2), proved_lookup::<A, 2>),
+        (&lookup(3), proved_lookup::<A, 3>),
     ];
     for (part, (name, run)) in parts.iter_mut().zip(runs) {
         part.codes.push(Code { name: format!("{}{name}", A::NAME), run });
     }
-    let checks: [(usize, &str, fn(&Case, &mut Scratch) -> u64); 4] = [
+    let checks: [(usize, &str, fn(&Case, &mut Scratch) -> u64); 7] = [
         (1, "cdf_check, refused", refused_check::<A>),
-        (6, "cdf_check, both", both_checks::<A>),
+        (6, "cdf_check, both", both_checks::<A, 0>),
         (7, "cdf_check", proved_check::<A>),
         (8, "cdf_check, no byte lost", proved_check::<A>),
+        (9, "cdf_check, both", both_checks::<A, 1>),
+        (10, "cdf_check, both", both_checks::<A, 2>),
+        (11, "cdf_check, both", both_checks::<A, 3>),
     ];
     for (at, name, run) in checks {
         let codes = &mut parts[at].codes;
@@ -215,15 +235,24 @@ fn batches<A: Batches>(reader: &mut Part) {
     reader.codes.push(Code { name, run: |case, _| A::walk_units(&case.stream) });
 }
 
-pub fn parts() -> [Part; 9] {
+fn named(
+    name: &'static str,
+    code_name: &str,
+    inlined: fn(&Case, &mut Scratch) -> u64,
+    out_of_line: fn(&Case, &mut Scratch) -> u64,
+) -> Part {
+    let code = |form, run| Code { name: format!("{code_name}: plain, {form}"), run };
+    let codes = vec![code("inlined", inlined), code("out of line", out_of_line)];
+    Part { name, codes, by: Vec::new(), bytes: |case| case.stream.len() }
+}
+
+pub fn parts() -> [Part; 12] {
     fn part(
         name: &'static str,
         inlined: fn(&Case, &mut Scratch) -> u64,
         out_of_line: fn(&Case, &mut Scratch) -> u64,
     ) -> Part {
-        let code = |form, run| Code { name: format!("{name}: plain, {form}"), run };
-        let codes = vec![code("inlined", inlined), code("out of line", out_of_line)];
-        Part { name, codes, by: Vec::new(), bytes: |case| case.stream.len() }
+        named(name, name, inlined, out_of_line)
     }
     let mut parts = [
         part("check", plain_check::<INLINED>, plain_check::<OUT_OF_LINE>),
@@ -236,13 +265,13 @@ pub fn parts() -> [Part; 9] {
         part("replay", plain_replay::<INLINED>, plain_replay::<OUT_OF_LINE>),
         part("builder", plain_build::<INLINED>, plain_build::<OUT_OF_LINE>),
         part("listing", plain_listing::<INLINED>, plain_listing::<OUT_OF_LINE>),
-        part("lookup", plain_lookup::<INLINED>, plain_lookup::<OUT_OF_LINE>),
+        lookup_part::<0>(),
         part("rescue", plain_rescue::<INLINED>, plain_rescue::<OUT_OF_LINE>),
-        part("rescue, bytes lost", plain_rescue_lost::<INLINED>, plain_rescue_lost::<OUT_OF_LINE>),
+        named("rescue", "rescue, bytes lost", plain_rescue_lost::<INLINED>, plain_rescue_lost::<OUT_OF_LINE>),
+        lookup_part::<1>(),
+        lookup_part::<2>(),
+        lookup_part::<3>(),
     ];
-    // Both are of one part.
-    parts[8].name = parts[7].name;
-    parts[6].bytes = |case| case.second.as_ref().map_or(0, |second| case.stream.len() + second.stream.len());
     parts[7].bytes = |case| case.lost.as_ref().map_or(0, |_| case.stream.len());
     parts[8].bytes = |case| case.lost.as_ref().map_or(0, Vec::len);
     let reader = &mut parts[2];

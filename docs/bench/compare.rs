@@ -1,7 +1,7 @@
 //! That the proved code gives plain Rust's answers: nothing is timed before.
 
 use crate::archive::{Archive, Explanation, Now, Place, Reads, Table, ENTRY};
-use crate::cases::{Case, Second};
+use crate::cases::{Asked, Case, Holder};
 use crate::codes::{plain_build, proved_build, Scratch, LISTING_ROOM};
 use crate::compare_reader::{assert_plain_walk, assert_reader, assert_units, words};
 use crate::place::Spot;
@@ -60,7 +60,7 @@ pub fn case(stream: Vec<u8>) -> Case {
     assert_eq!(stop.number, 1, "a stream to be timed is accepted");
     let mut case = Case::new(stream, &units);
     if units[0].id == 4 {
-        case.second = Some(second(&case.stream, &units));
+        case.asked = Some(asked(&case.stream, &units));
         case.lost = Some(lost(&case.stream, 8, &mut Random::new(case.stream.len() as u64)));
     }
     let refused = read(&case.refused);
@@ -69,15 +69,20 @@ pub fn case(stream: Vec<u8>) -> Case {
     case
 }
 
-/// The second stream of a lookup: its last template has one field more, and the value of that is looked up. The template
-/// stands last in the first stream too, without the field, so all templates of both are passed.
-fn second(first: &[u8], units: &[Unit]) -> Second {
-    let stream = one_field_more(first, units, b"Larsen");
-    let Expected { units, stop, .. } = read(&stream);
-    assert_eq!(stop.number, 1, "a stream to be timed is accepted");
-    let template = units.iter().rposition(|unit| unit.id == 5).expect("the last unit stands in a template");
-    let units = [units[template], units[template + 1], units[units.len() - 1]];
-    Second { stream, units }
+/// The streams of the lookups: a template of each has one field more, and the value of that is looked up. The last template stands in the
+/// stream itself too, without the field, so where both are searched for it all templates of both are passed.
+fn asked(stream: &[u8], units: &[Unit]) -> Asked {
+    let with_value = |behind: &Unit| {
+        let stream = one_field_more(stream, units, behind, b"Larsen");
+        let Expected { units, stop, .. } = read(&stream);
+        assert_eq!(stop.number, 1, "a stream to be timed is accepted");
+        let field = units.iter().position(|unit| unit.start == behind.end && unit.id == 8).expect("the field is there");
+        let template = units[..field].iter().rposition(|unit| unit.id == 5).expect("a field stands in a template");
+        Holder { units: [units[template], units[template + 1], units[field]], stream }
+    };
+    let from = |position| units.iter().find(|unit| unit.id == 8 && unit.start >= position).expect("there are fields");
+    let last = units.last().expect("a stream has a root");
+    Asked { last: with_value(last), early: with_value(from(0)), middle: with_value(from(stream.len() / 2)) }
 }
 
 /// The two forms of the plain code agree.

@@ -207,14 +207,26 @@ pub fn assert_equal(sets: &[Set]) {
         let label = |at: usize| format!("{} of {} bytes, {at}", set.name, set.size);
         for (at, (case, stream)) in set.cases.iter().zip(&streams).enumerate() {
             met.compare_around(&format!("{} and K2", label(at)), [stream, k2], &SURNAME, random);
-            if let Some(timed) = &case.second {
+            if let Some(asked) = &case.asked {
+                let timed = &asked.last;
                 let second = Stream::new(timed.stream.clone());
                 let (number, found) = met.compare(&label(at), [stream, &second], &timed.question());
                 let last = second.expected.units[second.expected.units.len() - 1];
                 let value = [0, 2, last.own as u64, 6];
                 assert_eq!((number, found), (0, value), "the timed value stands last in the second, {}", label(at));
                 met.compare_around(&format!("{}, timed", label(at)), [stream, &second], &timed.question(), random);
-                let empty = Stream::new(one_field_more(&case.stream, &stream.expected.units, b""));
+                let said = met.compare(&label(at), [stream, stream], &timed.question());
+                assert_eq!(said, (15, [0; 4]), "neither has the timed value, {}", label(at));
+                for (holder, from) in [(&asked.early, 0), (&asked.middle, stream.bytes.len() / 2)] {
+                    let label = format!("{}, timed from {from} on", label(at));
+                    let first = Stream::new(holder.stream.clone());
+                    let (number, [_, which, start, length]) = met.compare(&label, [&first, stream], &holder.question());
+                    assert_eq!((number, which, length), (0, 1, 6), "the timed value is the first stream's, {label}");
+                    assert!((from as u64..from as u64 + 120).contains(&start), "it stands there, {label}");
+                    met.compare_around(&label, [&first, stream], &holder.question(), random);
+                }
+                let units = &stream.expected.units;
+                let empty = Stream::new(one_field_more(&case.stream, units, &units[units.len() - 1], b""));
                 met.compare_around(&format!("{}, empty", label(at)), [stream, &empty], &timed.question(), random);
             }
         }

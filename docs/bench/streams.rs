@@ -169,10 +169,9 @@ fn one_key_more(stream: &[u8], units: &[Unit], key: &Unit, random: &mut Random) 
     insert(stream, units, key, &unit(random.pick(&[6, 7]), 0, &random.bytes(4), &[]))
 }
 
-/// A copy with one more field behind the last unit, of a name that no other unit has.
-pub fn one_field_more(stream: &[u8], units: &[Unit], value: &[u8]) -> Vec<u8> {
-    let last = units.last().expect("a stream has a root");
-    insert(stream, units, last, &unit(8, 1, &[b"\x0BMAIDEN_NAME", value].concat(), &[]))
+/// A copy with one more field behind this unit, of a name that no other unit has.
+pub fn one_field_more(stream: &[u8], units: &[Unit], behind: &Unit, value: &[u8]) -> Vec<u8> {
+    insert(stream, units, behind, &unit(8, 1, &[b"\x0BMAIDEN_NAME", value].concat(), &[]))
 }
 
 /// A copy with one more unit behind this one; the lengths of the units around it are mended.

@@ -24,6 +24,7 @@ use Rattle.cdf_lookup_spec.specs.declared.Search.{Search}
 use Rattle.cdf_lookup_spec.specs.declared.Search.the-variants.{Seeking, Named, Inside, Over}
 use Rattle.cdf_lookup_spec.specs.declared.Value.the-variants.{At, Missing}
 use Rattle.cdf_lookup_spec.proofs.Choosing.{check-numbers}
+use Rattle.cdf_lookup_search.specs.Over.{isOver}
 use Rattle.cdf_lookup_search.specs.Placed.{Lies, Placed}
 use Rattle.cdf_lookup_search.specs.Walking.{walkedOf}
 
@@ -53,6 +54,14 @@ module _ (l : Layout) (s : List ℕ) (q : Query) where
           let ends : end ≡ u .end = cc in
           (omega (arith, lies .end), omega (arith, lies .within))
   placed-on n (Over v) u lies p = p
+
+  -- Where the search is over it need not be asked.
+  pub stays : (state : Search) (u : Unit) → isOver state ≡ true → state ≡ advanceOf l s q state u
+  unfolding advanceOf
+  stays Seeking u e = clash cc
+  stays (Named end) u e = clash cc
+  stays (Inside end) u e = clash cc
+  stays (Over v) u e = refl
 
   -- A unit was handed out, and r is the search with it.
   module _ (a : Reply) (state : Search) (w : Turn seek l s Seeking a state) where

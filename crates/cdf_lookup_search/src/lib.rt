@@ -7,6 +7,7 @@ ghost use Rattle.cdf_unit_prefix.specs.Layout.{layoutOf, prefixOf};
 ghost use Rattle.cdf_unit_prefix.specs.declared.Edition.the-variants.{First};
 ghost use Rattle.cdf_lookup_spec.specs.Find.{query, sameBytes, reads, valueOf};
 ghost use Rattle.cdf_lookup_spec.specs.Search.{advanceOf, outcomeOf};
+ghost use Rattle.cdf_lookup_search.specs.Over.{isOver};
 ghost use Rattle.cdf_lookup_search.specs.Placed.{Lies, Placed};
 ghost use Rattle.cdf_lookup_search.specs.Walking.{walkedOf};
 use cdf_lookup_spec::Search;
@@ -120,6 +121,18 @@ fn outcome(state: Search) -> Value
     }
 }
 
+// Whether no further unit matters.
+fn is_over(state: Search) -> bool
+    ensures { λ r. ⌜ r ≡ isOver state ⌝ }
+{
+    match state {
+        Search::Seeking => false,
+        Search::Named(_) => false,
+        Search::Inside(_) => false,
+        Search::Over(_) => true,
+    }
+}
+
 // Walks over s to its end, a start and nexts until one hands out no unit: what the check says of s, its root, and what a search finds.
 pub fn walk(s: &[u8], template: &[u8], kind: usize, key: &[u8], field: &[u8]) -> Walked
     ensures is { λ r. ⌜ r ≡ walkedOf (layoutOf First) (now (s .entry)) (query (now (template .entry)) kind (now (key .entry)) (now (field .entry))) ⌝ }
@@ -132,7 +145,9 @@ pub fn walk(s: &[u8], template: &[u8], kind: usize, key: &[u8], field: &[u8]) ->
     let mut state = Search::Seeking;
     while a.number == 0 {
         let unit = a.handed.unit;
-        state = advance(Edition::First, s, state, unit, template, kind, key, field);
+        if !is_over(state) {
+            state = advance(Edition::First, s, state, unit, template, kind, key, field);
+        }
         let p = a.place;
         a = p.advance(&row, s);
     }

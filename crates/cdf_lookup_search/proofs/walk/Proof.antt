@@ -1,8 +1,10 @@
 -- The units are folded as they come, and what was found lies in the bytes. `turn` is the head of the loop, `step` where a unit was folded in.
 use Prim.Native.Nat.{ℕ, _≤_}
-use mathlib.Core.Path.{_≡_, refl, _∙_}
+use mathlib.Core.Path.{_≡_, refl, sym, _∙_}
 use mathlib.Core.List.{List}
+use mathlib.Core.Logic.{⊎-elim}
 use borrow.Author.Needs.{needs}
+use borrow.Author.Tests.{not-false}
 use lib.ListN.{length}
 use Rattle.cdf_unit_prefix.specs.Layout.{Layout, layoutOf}
 use Rattle.cdf_unit_prefix.specs.declared.Edition.the-variants.{First}
@@ -13,11 +15,11 @@ use Rattle.cdf_reader.proofs.Proved.{proved}
 use Rattle.cdf_reader_runs.proofs.Further.{first-later, next-later, ahead, less}
 use Rattle.cdf_reader_runs.proofs.Folding.{Going, begun, Turn, turned}
 use Rattle.cdf_lookup_spec.specs.Find.{Query, query}
-use Rattle.cdf_lookup_spec.specs.Search.{outcomeOf}
+use Rattle.cdf_lookup_spec.specs.Search.{advanceOf, outcomeOf}
 use Rattle.cdf_lookup_spec.specs.declared.Search.the-variants.{Seeking}
 use Rattle.cdf_lookup_search.specs.Placed.{Placed}
 use Rattle.cdf_lookup_search.proofs.Rooted.{group-is}
-use Rattle.cdf_lookup_search.proofs.Searched.{nowhere, seek, lies-in, goes-on, keeps-place, accepted, refused}
+use Rattle.cdf_lookup_search.proofs.Searched.{nowhere, seek, lies-in, stays, goes-on, keeps-place, accepted, refused}
 use Rattle.cdf_lookup_search.proofs.walk.Statement.{statement}
 use Rattle.cdf_lookup_search.proofs.walk.Tie as tie
 
@@ -52,22 +54,28 @@ in-hand : (turn : tie.At-loop Inv-loop μ-loop) → turn .loop .a .number ≡ 0 
 in-hand turn z =
     turned (seek l (bytes turn) (asked turn)) l (bytes turn) Seeking (replyOf (turn .loop .a)) (turn .loop .state) (turn .loop .inv .0) z
 
--- Where it was folded in.
-module _ (step : tie.After-advance Inv-loop μ-loop) where
+-- Where it was folded in, or the search is over.
+module _ (step : tie.Joined2 Inv-loop μ-loop) where
   abbrev head : tie.At-loop Inv-loop μ-loop
-  head = step .before .before .before .before
+  head = step .before .before .before .before .before
 
   abbrev taken : head .loop .a .number ≡ 0
-  taken = step .before .before .if1 .taken
+  taken = step .before .before .before .if1 .taken
 
-  on : Going (seek l (bytes head) (asked head)) l (bytes head) Seeking (nextOf l (bytes head) (view (head .loop .a .place)))
-      (step .advance .result)
-  on = goes-on l (bytes head) (asked head) (replyOf (head .loop .a)) (head .loop .state) (in-hand head taken) _ (step .advance .ensures)
+  folded : step .if2 .state ≡ advanceOf l (bytes head) (asked head) (head .loop .state) (head .loop .a .handed .unit)
+  folded =
+      let over = step .before .is-over in
+      ⊎-elim
+      (λ t. t .2 ∙ t .1 .ensures)
+      (λ e. e .1 ∙ stays l (bytes head) (asked head) (head .loop .state) (head .loop .a .handed .unit)
+      (sym (over .ensures) ∙ not-false (over .result) (e .0 .left)))
+      (step .if2 .came)
 
-  placed : Placed (length (bytes head)) (outcomeOf (step .advance .result))
-  placed =
-      keeps-place l (bytes head) (asked head) (replyOf (head .loop .a)) (head .loop .state) (in-hand head taken) _ (step .advance .ensures)
-      (head .loop .inv .2)
+  on : Going (seek l (bytes head) (asked head)) l (bytes head) Seeking (nextOf l (bytes head) (view (head .loop .a .place))) (step .if2 .state)
+  on = goes-on l (bytes head) (asked head) (replyOf (head .loop .a)) (head .loop .state) (in-hand head taken) _ folded
+
+  placed : Placed (length (bytes head)) (outcomeOf (step .if2 .state))
+  placed = keeps-place l (bytes head) (asked head) (replyOf (head .loop .a)) (head .loop .state) (in-hand head taken) _ folded (head .loop .inv .2)
 
 first-requires : tie.Need-first-requires Inv-loop μ-loop
 first-requires c κs = search needs
@@ -83,10 +91,14 @@ loop-holds c =
       refl,
     )
 
+is-over-requires : tie.Need-is-over-requires Inv-loop μ-loop
+is-over-requires c κs = search needs
+
 advance-requires : tie.Need-advance-requires Inv-loop μ-loop
 advance-requires c κs =
-    let turn = c .before .before .before in
-    lies-in l (bytes turn) (asked turn) (replyOf (turn .loop .a)) (turn .loop .state) (in-hand turn (c .before .if1 .taken))
+    let hand = c .before .before .before in
+    let turn = hand .before .before in
+    lies-in l (bytes turn) (asked turn) (replyOf (turn .loop .a)) (turn .loop .state) (in-hand turn (hand .if1 .taken))
 
 advance-requires-2 : tie.Need-advance-requires-2 Inv-loop μ-loop
 advance-requires-2 c κs = search needs
@@ -125,7 +137,7 @@ returns c =
     let turn = end .before .before .before in
     let is = end .outcome .ensures in
     let group = group-is l (bytes turn) (replyOf (begin turn .first .result)) (begin turn .first .ensures .0) in (
-      rw is (accepted l (bytes turn) (asked turn) (replyOf (turn .loop .a)) (turn .loop .state) (turn .loop .inv .0) _ group (c .if2 .taken)),
+      rw is (accepted l (bytes turn) (asked turn) (replyOf (turn .loop .a)) (turn .loop .state) (turn .loop .inv .0) _ group (c .if3 .taken)),
       rw is (turn .loop .inv .2),
     )
 
@@ -137,7 +149,7 @@ returns-2 c =
     let group = group-is l (bytes turn) (replyOf (begin turn .first .result)) (begin turn .first .ensures .0) in (
       rw is
           (refused l (bytes turn) (asked turn) (replyOf (turn .loop .a)) (turn .loop .state) (turn .loop .inv .0) _ group (end .before .if1 .left)
-          (c .if2 .left)),
+          (c .if3 .left)),
       rw is (turn .loop .inv .2),
     )
 
@@ -149,6 +161,7 @@ walk-spec =
     μ-loop
     first-requires
     loop-holds
+    is-over-requires
     advance-requires
     advance-requires-2
     loop-less
