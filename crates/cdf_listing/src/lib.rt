@@ -13,7 +13,7 @@ use cdf_listing_lines::put_line;
 use cdf_listing_lines::put_ok;
 use cdf_listing_lines::put_refused;
 use cdf_reader::first;
-use cdf_unit_data::row::NAME_BYTES;
+use cdf_unit_own::row::NAME_BYTES;
 
 // 0 and how many bytes were written, or 12 and none.
 pub struct Written {

@@ -25,8 +25,8 @@ use cdf_reader_replay_codes::is_known;
 use cdf_reader_replay_codes::part_of;
 use cdf_reader_spec::Call;
 use cdf_reader_use::has_use;
-use cdf_unit_data::row::NAME_BYTES;
 use cdf_unit_list::Ranked;
+use cdf_unit_own::row::NAME_BYTES;
 use cdf_unit_prefix::Edition;
 
 // What a replay answers: the number, and how many entries it has written.

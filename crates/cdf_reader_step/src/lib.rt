@@ -19,8 +19,8 @@ use cdf_reader_fit::fits;
 use cdf_reader_spec::Call;
 use cdf_reader_use::has_use;
 use cdf_reader_use::is_start;
-use cdf_unit_data::row::NAME_BYTES;
 use cdf_unit_list::Ranked;
+use cdf_unit_own::row::NAME_BYTES;
 use cdf_unit_prefix::Edition;
 
 // Whether the place could belong to n bytes.

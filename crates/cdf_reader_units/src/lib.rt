@@ -12,8 +12,8 @@ ghost use Rattle.cdf_reader_units.specs.Filling.{unitNumbers, Fills};
 ghost use Rattle.cdf_reader_units.specs.Stopping.{stoppedAt};
 use cdf_reader::Place;
 use cdf_reader_step::is_fit;
-use cdf_unit_data::row::NAME_BYTES;
 use cdf_unit_list::Ranked;
+use cdf_unit_own::row::NAME_BYTES;
 use cdf_unit_prefix::Edition;
 
 // What the call answers beside the units in the list: the number and its offset, how many units there are, and the new place.

@@ -5,8 +5,8 @@ ghost use Rattle.cdf_unit_prefix.specs.Layout.{layoutOf};
 ghost use Rattle.cdf_unit_prefix.specs.declared.Edition.the-variants.{First};
 ghost use Rattle.cdf_reader_walk.specs.Fold.{mixOf, mixEnd, walkOf};
 use cdf_reader::first;
-use cdf_unit_data::row::NAME_BYTES;
 use cdf_unit_list::Ranked;
+use cdf_unit_own::row::NAME_BYTES;
 
 // One more unit.
 fn mix(h: u64, handed: Ranked) -> u64

@@ -136,10 +136,10 @@ fn declarations_are_the_headers() {
     assert_eq!(declared.matches("pub fn ").count(), headers.matches("uint64_t cdf_").count() - missing.len());
 }
 
-/// Which kinds have names, values and numbers, and how long they are, is what the proved crate of own data says.
+/// Which kinds have names, values and numbers, and how long they are, is what the proved crates of own data say.
 #[test]
 fn own_data_is_the_crates() {
-    let source = text("crates/cdf_unit_data/src/lib.rt");
+    let source = text("crates/cdf_unit_own/src/lib.rt");
     // With a name and without: what `own_data` says is `own_data_by` of the format's row.
     let arms = source.split("fn unnamed").nth(1).unwrap().split("pub fn own_data(").next().unwrap();
     let mut forms = BTreeMap::new();
@@ -157,6 +157,6 @@ fn own_data_is_the_crates() {
         assert_eq!(id.numbers() * 4, bytes, "{id}");
     }
     assert!(forms.is_empty(), "{forms:?}");
-    assert!(source.contains(&format!("if {} < count {{", cdf::NAME_MOST)));
+    assert!(text("crates/cdf_unit_name/src/lib.rt").contains(&format!("if {} < count {{", cdf::NAME_MOST)));
     assert!(source.contains(&format!("if s.len() <= k + {} {{", cdf::VALUE_MOST)));
 }

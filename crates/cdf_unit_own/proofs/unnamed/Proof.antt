@@ -6,9 +6,9 @@ use borrow.Author.Needs.{needs}
 use Rattle.cdf_unit_table.specs.Ids.{member, kindOf}
 use Rattle.cdf_unit_table.proofs.Match.{each}
 use Rattle.cdf_unit_table.proofs.Others.{blank-else}
 use Rattle.cdf_unit_data.specs.Data.{ownDataBy}
-use Rattle.cdf_unit_data.proofs.unnamed.Statement.{statement}
-use Rattle.cdf_unit_data.proofs.unnamed.Tie as tie
+use Rattle.cdf_unit_own.proofs.unnamed.Statement.{statement}
+use Rattle.cdf_unit_own.proofs.unnamed.Tie as tie
 
 returns : tie.Need-returns
 unfolding ownDataBy

@@ -1,9 +1,9 @@
 -- By the test of the definition.
 use Rattle.cdf_unit_data.specs.Data.{valueFrom}
 use borrow.Author.Tests.{le-leb, lt-leb}
 use borrow.Author.Needs.{needs}
-use Rattle.cdf_unit_data.proofs.value.Statement.{statement}
-use Rattle.cdf_unit_data.proofs.value.Tie as tie
+use Rattle.cdf_unit_own.proofs.value.Statement.{statement}
+use Rattle.cdf_unit_own.proofs.value.Tie as tie
 
 add-if1 : tie.Need-add-if1
 add-if1 c = search needs

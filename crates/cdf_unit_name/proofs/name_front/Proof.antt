@@ -4,10 +4,10 @@ use native.Mathlib.Omega.{arith}
 use borrow.Author.Needs.{needs}
 use borrow.Author.Tests.{not-true, not-false}
 use lib.ListN.{length}
 use Rattle.cdf_unit_data.specs.Standing.{rowBytes}
 use Rattle.cdf_unit_data.proofs.Names.{Run, front-none, front-bad, begun, stopped, on, ended}
-use Rattle.cdf_unit_data.proofs.name_front.Statement.{statement}
-use Rattle.cdf_unit_data.proofs.name_front.Tie as tie
+use Rattle.cdf_unit_name.proofs.name_front.Statement.{statement}
+use Rattle.cdf_unit_name.proofs.name_front.Tie as tie
 
 abbrev Inv-loop : tie.InvT-loop
 Inv-loop row s i₀ i = Run (rowBytes row) s i

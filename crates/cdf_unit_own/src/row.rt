@@ -1,10 +1,7 @@
 // Where each byte may stand in a name.
-
-pub const NOWHERE: u8 = 0;
-
-pub const NOT_FIRST: u8 = 1;
-
-pub const ANYWHERE: u8 = 2;
+use cdf_unit_name::ANYWHERE;
+use cdf_unit_name::NOT_FIRST;
+use cdf_unit_name::NOWHERE;
 
 // By the byte.
 pub const NAME_BYTES: [u8; 256] = [

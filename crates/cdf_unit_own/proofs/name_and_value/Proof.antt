@@ -1,10 +1,10 @@
 -- By the cases of the name.
 use mathlib.Core.Path.{sym, _∙_}
 use Rattle.cdf_unit_data.specs.Data.{valueAfter}
 use Rattle.cdf_unit_data.proofs.Taken.{name-short}
 use borrow.Author.Needs.{needs}
-use Rattle.cdf_unit_data.proofs.name_and_value.Statement.{statement}
-use Rattle.cdf_unit_data.proofs.name_and_value.Tie as tie
+use Rattle.cdf_unit_own.proofs.name_and_value.Statement.{statement}
+use Rattle.cdf_unit_own.proofs.name_and_value.Tie as tie
 
 name-requires : tie.Need-name-requires
 name-requires c κs = search needs

@@ -3,11 +3,11 @@ use mathlib.Core.Path.{_≡_, refl}
 use mathlib.Core.List.{[], _∷_}
 use borrow.Author.Needs.{needs}
 use Rattle.cdf_unit_table.proofs.Match.{each}
 use Rattle.cdf_unit_data.specs.Data.{ownDataBy, ownData}
 use Rattle.cdf_unit_data.specs.Standing.{nameRow}
 use Rattle.cdf_unit_data.proofs.Standing.{row-is}
-use Rattle.cdf_unit_data.proofs.own_data.Statement.{statement}
-use Rattle.cdf_unit_data.proofs.own_data.Tie as tie
+use Rattle.cdf_unit_own.proofs.own_data.Statement.{statement}
+use Rattle.cdf_unit_own.proofs.own_data.Tie as tie
 
 unnamed-requires : tie.Need-unnamed-requires
 unnamed-requires c κs = (c .match .rest .0 .1, c .match .rest .1)

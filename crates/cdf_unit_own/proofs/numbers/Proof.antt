@@ -1,8 +1,8 @@
 -- By the tests of the definition.
 use Rattle.cdf_unit_data.specs.Data.{numbersOf}
 use borrow.Author.Tests.{le-leb, lt-leb, eq-eqb, ne-eqb}
-use Rattle.cdf_unit_data.proofs.numbers.Statement.{statement}
-use Rattle.cdf_unit_data.proofs.numbers.Tie as tie
+use Rattle.cdf_unit_own.proofs.numbers.Statement.{statement}
+use Rattle.cdf_unit_own.proofs.numbers.Tie as tie
 
 returns : tie.Need-returns
 unfolding numbersOf

@@ -7,11 +7,11 @@ use native.Mathlib.Omega.{arith}
 use borrow.Author.Tests.{le-leb, lt-leb, eq-eqb, ne-eqb}
 use borrow.Author.Needs.{needs}
 use Rattle.cdf_unit_table.proofs.Parts.{minus-one}
 use Rattle.cdf_unit_data.specs.Data.{nameBy, spelled}
 use Rattle.cdf_unit_data.specs.Standing.{rowBytes}
 use Rattle.cdf_unit_data.proofs.Names.{front-short, name-none, name-is, name-by}
-use Rattle.cdf_unit_data.proofs.name.Statement.{statement}
-use Rattle.cdf_unit_data.proofs.name.Tie as tie
+use Rattle.cdf_unit_name.proofs.name.Statement.{statement}
+use Rattle.cdf_unit_name.proofs.name.Tie as tie
 
 returns : tie.Need-returns
 returns c = name-none _ _ (c .if1 .taken)

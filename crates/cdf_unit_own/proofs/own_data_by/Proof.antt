@@ -3,10 +3,10 @@ use mathlib.Core.Path.{_≡_}
 use mathlib.Core.List.{[], _∷_}
 use borrow.Author.Needs.{needs}
 use Rattle.cdf_unit_table.proofs.Match.{each}
 use Rattle.cdf_unit_data.specs.Data.{ownDataBy}
 use Rattle.cdf_unit_data.specs.Standing.{rowBytes}
-use Rattle.cdf_unit_data.proofs.own_data_by.Statement.{statement}
-use Rattle.cdf_unit_data.proofs.own_data_by.Tie as tie
+use Rattle.cdf_unit_own.proofs.own_data_by.Statement.{statement}
+use Rattle.cdf_unit_own.proofs.own_data_by.Tie as tie
 
 unnamed-requires : tie.Need-unnamed-requires
 unnamed-requires c κs = (c .match .rest .0 .1, c .match .rest .1)
