@@ -8,12 +8,13 @@ ghost use Rattle.cdf_listing_spec.specs.Text.{listedLines, listingText};
 ghost use Rattle.cdf_listing_lines.specs.Put.{Put};
 ghost use Rattle.cdf_listing.specs.Written.{anyFits, writtenOf, bufferOf};
 use cdf_check::Checked;
-use cdf_check::check;
+use cdf_check::check_as;
 use cdf_listing_lines::put_line;
 use cdf_listing_lines::put_ok;
 use cdf_listing_lines::put_refused;
-use cdf_reader::first;
+use cdf_reader::first_as;
 use cdf_unit_own::row::NAME_BYTES;
+use cdf_unit_prefix::Edition;
 
 // 0 and how many bytes were written, or 12 and none.
 pub struct Written {
@@ -26,7 +27,7 @@ fn put_units(s: &[u8], out: &mut [u8]) -> usize
     ensures { λ r. ⌜ Put (now (out .entry)) 0 (listedLines (layoutOf First) (now (s .entry))) (now (out .exit)) r ⌝ }
 {
     let row = NAME_BYTES;
-    let mut a = first(s);
+    let mut a = first_as(Edition::First, s);
     let mut at = 0;
     while a.number == 0 {
         let p = a.place;
@@ -34,7 +35,7 @@ fn put_units(s: &[u8], out: &mut [u8]) -> usize
         let unit = a.handed.unit;
         let size = unit.end - unit.start;
         at = put_line(out, at as u32, depth, unit, size);
-        a = p.advance(&row, s);
+        a = p.advance(&row, Edition::First, s);
     }
     at
 }
@@ -43,7 +44,7 @@ fn put_units(s: &[u8], out: &mut [u8]) -> usize
 fn put_listing(s: &[u8], out: &mut [u8]) -> usize
     ensures { λ r. ⌜ Put (now (out .entry)) 0 (listingText (layoutOf First) (now (s .entry))) (now (out .exit)) r ⌝ }
 {
-    match check(s) {
+    match check_as(Edition::First, s) {
         Checked::Accepted(units) => {
             let at = put_units(s, out);
             put_ok(out, at as u32, units)

@@ -149,7 +149,7 @@ pub fn walk(s: &[u8], template: &[u8], kind: usize, key: &[u8], field: &[u8]) ->
             state = advance(Edition::First, s, state, unit, template, kind, key, field);
         }
         let p = a.place;
-        a = p.advance(&row, s);
+        a = p.advance(&row, Edition::First, s);
     }
     let value = outcome(state);
     if a.number == 1 {

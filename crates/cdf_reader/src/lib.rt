@@ -18,7 +18,7 @@ use cdf_reader_close::close;
 use cdf_reader_close::rank_at;
 use cdf_reader_cursor::Cursor;
 use cdf_reader_cursor::Outcome;
-use cdf_reader_cursor::first_as;
+use cdf_reader_cursor::first_as as start_as;
 use cdf_reader_cursor::moved;
 use cdf_reader_cursor::no_cursor;
 use cdf_reader_spec::Call;
@@ -132,12 +132,12 @@ impl Place {
 
     // NEXT without a test of the place, for loops, by a row of name bytes: with the format's row, `NAME_BYTES`, at a place that fits, as each is that
     // a call returns with 0, it is NEXT (`advances`). At the empty place it answers 1, and at any other it may answer 99.
-    pub fn advance(self, row: &[u8; 256], s: &[u8]) -> Answer
-        ensures is { λ r. ⌜ replyOf r ≡ advancedBy (rowBytes (now (row .entry))) (layoutOf First) (now (s .entry)) (view self) ⌝ }
+    pub fn advance(self, row: &[u8; 256], edition: Edition, s: &[u8]) -> Answer
+        ensures is { λ r. ⌜ replyOf r ≡ advancedBy (rowBytes (now (row .entry))) (layoutOf edition) (now (s .entry)) (view self) ⌝ }
         ensures kept { λ r. ⌜ ((r .number ≡ 0 → ⊥) → r .place ≡ self) ⌝ }
     {
         let c = self.cursor();
-        let o = advance(c, row, Edition::First, s);
+        let o = advance(c, row, edition, s);
         answered(o)
     }
 
@@ -213,13 +213,21 @@ impl Place {
     }
 }
 
+// FIRST, for streams of this edition.
+pub fn first_as(edition: Edition, s: &[u8]) -> Answer
+    ensures is { λ r. ⌜ replyOf r ≡ firstOf (layoutOf edition) (now (s .entry)) ⌝ }
+    ensures kept { λ r. ⌜ ((r .number ≡ 0 → ⊥) → r .place ≡ noPlace) ⌝ }
+{
+    let o = start_as(edition, s);
+    answered(o)
+}
+
 // FIRST, for streams of the first edition.
 pub fn first(s: &[u8]) -> Answer
     ensures is { λ r. ⌜ replyOf r ≡ firstOf (layoutOf First) (now (s .entry)) ⌝ }
     ensures kept { λ r. ⌜ ((r .number ≡ 0 → ⊥) → r .place ≡ noPlace) ⌝ }
 {
-    let o = first_as(Edition::First, s);
-    answered(o)
+    first_as(Edition::First, s)
 }
 
 // GET_STREAM: the part of the lent stream that is the group, and where the number is not 0, the empty part at the front.

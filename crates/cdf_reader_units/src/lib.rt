@@ -70,7 +70,7 @@ fn run(p: Place, s: &[u8], list: &mut [u64]) -> Filled
     let mut count = 0;
     let mut at = 0;
     while count < room {
-        let a = place.advance(&row, s);
+        let a = place.advance(&row, Edition::First, s);
         if a.number != 0 {
             return stopped(a.number, a.offset, count, place);
         }

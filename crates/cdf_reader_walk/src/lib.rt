@@ -7,6 +7,7 @@ ghost use Rattle.cdf_reader_walk.specs.Fold.{mixOf, mixEnd, walkOf};
 use cdf_reader::first;
 use cdf_unit_list::Ranked;
 use cdf_unit_own::row::NAME_BYTES;
+use cdf_unit_prefix::Edition;
 
 // One more unit.
 fn mix(h: u64, handed: Ranked) -> u64
@@ -37,7 +38,7 @@ pub extern "C" fn cdf_walk(s: &[u8]) -> u64
         let handed = a.handed;
         h = mix(h, handed);
         let p = a.place;
-        a = p.advance(&row, s);
+        a = p.advance(&row, Edition::First, s);
     }
     mix_end(h, a.number, a.offset)
 }

@@ -26,6 +26,7 @@ use cdf_resolve_tally::told;
 use cdf_unit_list::Ranked;
 use cdf_unit_list::Unit;
 use cdf_unit_own::row::NAME_BYTES;
+use cdf_unit_prefix::Edition;
 use cdf_unit_table::ENTITY_KEY;
 use cdf_unit_table::ER_GROUP;
 use cdf_unit_table::TEMPLATE;
@@ -218,7 +219,7 @@ fn pass(s: &[u8], list: &mut [u64]) -> Tally
         );
         owner = handed;
         let p = a.place;
-        a = p.advance(&row, s);
+        a = p.advance(&row, Edition::First, s);
     }
     t
 }

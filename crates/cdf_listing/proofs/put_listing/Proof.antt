@@ -9,8 +9,8 @@ use Rattle.cdf_listing_lines.proofs.Putting.{put-both}
 use Rattle.cdf_listing.proofs.put_listing.Statement.{statement}
 use Rattle.cdf_listing.proofs.put_listing.Tie as tie
 
-check-requires : tie.Need-check-requires
-check-requires c κs = search needs
+check-as-requires : tie.Need-check-as-requires
+check-as-requires c κs = search needs
 
 enum-known-units : tie.Need-enum-known-units
 enum-known-units c = search needs
@@ -41,7 +41,7 @@ returns c =
     let answer = told .before .before in
     let start = answer .before .before .before in
     let case = told .units .given in
-    rw (accepted (layoutOf First) (start .args .s .now) (case .0 .0) (sym (answer .check .ensures .1 .0) ∙ case .1))
+    rw (accepted (layoutOf First) (start .args .s .now) (case .0 .0) (sym (answer .check-as .ensures .1 .0) ∙ case .1))
     (put-both (lines .put-units .ensures) (ok .put-ok .ensures))
 
 same-length-2 : tie.Need-same-length-2
@@ -53,14 +53,14 @@ returns-2 c =
     let answer = told .before .before in
     let start = answer .before .before .before in
     let case = told .number .given in
-    rw (turned-down (layoutOf First) (start .args .s .now) (case .0 .0) (case .0 .1 .0) (sym (answer .check .ensures .1 .0) ∙ case .1))
+    rw (turned-down (layoutOf First) (start .args .s .now) (case .0 .0) (case .0 .1 .0) (sym (answer .check-as .ensures .1 .0) ∙ case .1))
     (c .before .before .put-refused .ensures)
 
 pub put-listing-spec : {M : Type 1} → statement M
 put-listing-spec =
     tie.close
     (tie.spec
-    check-requires
+    check-as-requires
     enum-known-units
     put-units-requires
     cast-put-ok

@@ -17,13 +17,13 @@ Inv-loop s out₀ row a₀ at₀ out a at = Lined s out₀ a out at × (row ≡ 
 abbrev μ-loop : tie.MeasureT-loop
 μ-loop s out₀ row a₀ at₀ out a at = ahead (layoutOf First) s (a .number) (a .place .position)
 
-first-requires : tie.Need-first-requires Inv-loop μ-loop
-first-requires c κs = search needs
+first-as-requires : tie.Need-first-as-requires Inv-loop μ-loop
+first-as-requires c κs = search needs
 
 loop-holds : tie.Need-loop-holds Inv-loop μ-loop
 unfolding nameRow
 loop-holds c =
-    let a = c .before .before .before .args in (lined-first (a .s .now) (a .out .now) (c .first .result) (c .first .ensures .0), refl)
+    let a = c .before .before .before .args in (lined-first (a .s .now) (a .out .now) (c .first-as .result) (c .first-as .ensures .0), refl)
 
 sub-size : tie.Need-sub-size Inv-loop μ-loop
 sub-size c =
@@ -67,7 +67,7 @@ put-units-spec =
     (tie.spec
     Inv-loop
     μ-loop
-    first-requires
+    first-as-requires
     loop-holds
     sub-size
     cast-put-line

@@ -1,7 +1,6 @@
 -- The outcome at the place's cursor (proofs/Answering).
 use borrow.Author.Needs.{needs}
 use Rattle.cdf_unit_prefix.specs.Layout.{layoutOf}
-use Rattle.cdf_unit_prefix.specs.declared.Edition.the-variants.{First}
 use Rattle.cdf_reader_spec.specs.declared.Call.the-variants.{Next}
 use Rattle.cdf_unit_data.specs.Standing.{rowBytes}
 use Rattle.cdf_reader_advance.specs.Advancing.{advancedBy}
@@ -23,7 +22,8 @@ returns c =
     let told = c .before in
     let at = told .before in
     let a = at .before .before .args in (
-      due _ _ (at .cursor .ensures) _ _ (c .answered .ensures) (advancedBy (rowBytes (a .row .now)) (layoutOf First) (a .s .now)) (told .advance .ensures .0),
+      due _ _ (at .cursor .ensures) _ _ (c .answered .ensures) (advancedBy (rowBytes (a .row .now)) (layoutOf (a .edition)) (a .s .now))
+          (told .advance .ensures .0),
       keeps _ _ (at .cursor .ensures) _ _ (c .answered .ensures) Next (told .advance .ensures .1),
     )
 
