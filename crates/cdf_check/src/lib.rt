@@ -4,8 +4,7 @@ ghost use mathlib.Core.Bool.{Bool};
 ghost use mathlib.Core.Logic.{_↔_};
 ghost use Prim.Native.Nat.{ℕ, _+_, _≤_};
 ghost use lib.ListN.{length};
-ghost use Rattle.cdf_unit_prefix.specs.Layout.{layoutOf};
-ghost use Rattle.cdf_unit_prefix.specs.declared.Edition.the-variants.{First};
+ghost use Rattle.cdf_unit_prefix.specs.Layout.{layoutOf, layoutFor};
 ghost use Rattle.cdf_unit_data.specs.Standing.{nameRow};
 ghost use Rattle.cdf_unit_judge.specs.Judge.{judgeOf};
 ghost use Rattle.cdf_unit_list.specs.Units.{listing, listingIn};
@@ -22,6 +21,7 @@ use cdf_unit_judge::judge_root;
 use cdf_unit_own::row::NAME_BYTES;
 use cdf_unit_prefix::Edition;
 use cdf_unit_prefix::Header;
+use cdf_unit_prefix::edition_of;
 use cdf_unit_prefix::head;
 use cdf_unit_prefix::prefix;
 use cdf_unit_table::first_state;
@@ -168,11 +168,13 @@ pub fn check_as(edition: Edition, s: &[u8]) -> Checked
 
 // Checks a whole stream.
 pub fn check(s: &[u8]) -> Checked
-    ensures answer { λ r. ⌜ asAnswer r ≡ checkOf (layoutOf First) (now (s .entry)) ⌝ }
-    ensures is { λ r. ⌜ r ≡ checkedOf (listing (layoutOf First) (now (s .entry))) ⌝ }
-    ensures exact { λ r. ⌜ ((n : ℕ) → (r ≡ Checked.Accepted n) ↔ ((t : Forest) × Stream (layoutOf First) (now (s .entry)) t × (units t ≡ n))) ⌝ }
+    ensures answer { λ r. ⌜ asAnswer r ≡ checkOf (layoutFor (now (s .entry))) (now (s .entry)) ⌝ }
+    ensures is { λ r. ⌜ r ≡ checkedOf (listing (layoutFor (now (s .entry))) (now (s .entry))) ⌝ }
+    ensures exact { λ r. ⌜ ((n : ℕ) →
+        (r ≡ Checked.Accepted n) ↔ ((t : Forest) × Stream (layoutFor (now (s .entry))) (now (s .entry)) t × (units t ≡ n))) ⌝ }
 {
-    check_as(Edition::First, s)
+    let edition = edition_of(s);
+    check_as(edition, s)
 }
 
 // Checks the unit at the front of s, which is what a unit in this state has left.

@@ -1,8 +1,7 @@
 // Why a stream is refused: where the refused unit stands, and what could have stood there.
 ghost use Prim.Native.Nat.{_≤_};
 ghost use mathlib.Core.Path.{_≡_};
-ghost use Rattle.cdf_unit_prefix.specs.Layout.{layoutOf};
-ghost use Rattle.cdf_unit_prefix.specs.declared.Edition.the-variants.{First};
+ghost use Rattle.cdf_unit_prefix.specs.Layout.{layoutFor};
 ghost use Rattle.cdf_reader_spec.specs.Slots.{openUnits};
 ghost use Rattle.cdf_explain_spec.specs.Why.{whyOf};
 ghost use Rattle.cdf_explain.specs.Numbers.{explainedBy};
@@ -13,7 +12,7 @@ use cdf_reader_close::no_open;
 use cdf_reader_cursor::first_as;
 use cdf_unit_list::Open;
 use cdf_unit_own::row::NAME_BYTES;
-use cdf_unit_prefix::Edition;
+use cdf_unit_prefix::edition_of;
 use cdf_unit_states::unit_of;
 use cdf_unit_table::IDS_END;
 use cdf_unit_table::STREAM;
@@ -115,15 +114,16 @@ fn tell(
     }
 }
 
-// Explains s, a stream of the first edition or any other bytes: a start and nexts up to the first number that is not 0.
+// Explains s, a stream or any other bytes: a start and nexts up to the first number that is not 0.
 pub fn explain(s: &[u8]) -> Explained
-    ensures is { λ r. ⌜ r ≡ explainedBy (whyOf (layoutOf First) (now (s .entry))) ⌝ }
+    ensures is { λ r. ⌜ r ≡ explainedBy (whyOf (layoutFor (now (s .entry))) (now (s .entry))) ⌝ }
 {
     let row = NAME_BYTES;
-    let mut a = first_as(Edition::First, s);
+    let edition = edition_of(s);
+    let mut a = first_as(edition, s);
     while a.number == 0 {
         let c = a.cursor;
-        a = advance(c, &row, Edition::First, s);
+        a = advance(c, &row, edition, s);
     }
     if a.number == 1 {
         return Explained {

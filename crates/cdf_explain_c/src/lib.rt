@@ -1,7 +1,6 @@
 // Why a stream is refused, for programs in C.
 ghost use mathlib.Core.Path.{_≡_};
-ghost use Rattle.cdf_unit_prefix.specs.Layout.{layoutOf};
-ghost use Rattle.cdf_unit_prefix.specs.declared.Edition.the-variants.{First};
+ghost use Rattle.cdf_unit_prefix.specs.Layout.{layoutFor};
 ghost use Rattle.cdf_explain_spec.specs.Why.{whyOf};
 ghost use Rattle.cdf_explain_c.specs.Answer.{answerOf};
 use cdf_explain::explain;
@@ -10,8 +9,8 @@ use cdf_explain::explain;
 // have stood there.
 #[no_mangle]
 pub extern "C" fn cdf_explain(s: &[u8], answer: &mut [u64; 25]) -> u64
-    ensures number { λ r. ⌜ r ≡ whyOf (layoutOf First) (now (s .entry)) .number ⌝ }
-    ensures answer { λ r. ⌜ now (answer .exit) ≡ answerOf (whyOf (layoutOf First) (now (s .entry))) ⌝ }
+    ensures number { λ r. ⌜ r ≡ whyOf (layoutFor (now (s .entry))) (now (s .entry)) .number ⌝ }
+    ensures answer { λ r. ⌜ now (answer .exit) ≡ answerOf (whyOf (layoutFor (now (s .entry))) (now (s .entry))) ⌝ }
 {
     let told = explain(s);
     let units = told.units;

@@ -7,8 +7,7 @@ use native.Mathlib.Omega.{arith}
 use borrow.Author.Tests.{eq-eqb, ne-eqb}
 use lib.Dec.{eqb}
 use lib.ListN.{length}
-use Rattle.cdf_unit_prefix.specs.Layout.{Layout, layoutOf}
-use Rattle.cdf_unit_prefix.specs.declared.Edition.{Edition}
+use Rattle.cdf_unit_prefix.specs.Layout.{Layout, editionOf, layoutFor}
 use Rattle.cdf_unit_list.specs.Units.{listing}
 use Rattle.cdf_unit_list.specs.Check.{checkOf}
 use Rattle.cdf_grammar.specs.Encoding.{Bytes}
@@ -29,53 +28,56 @@ roots true false x = refl
 roots false g x = refl
 
 -- What a walk over a stream tells: a refusal's offset is the check's,
-module _ (e : Edition) (s : List ℕ) (q : Query) (w : Walked) (h : w ≡ walkedOf (layoutOf e) s q) where
-  offset-is : (w .number ≡ 0 → ⊥) → w .offset ≡ checkOf (layoutOf e) s .value
+module _ (s : List ℕ) (q : Query) (w : Walked) (h : w ≡ walkedOf (layoutFor s) s q) where
+  offset-is : (w .number ≡ 0 → ⊥) → w .offset ≡ checkOf (layoutFor s) s .value
   unfolding walkedOf
   offset-is some =
       ap (λ (x : Walked). x .offset) h
-      ∙ rw (ne-eqb (checkOf (layoutOf e) s .number) 0 (λ z. some (ap (λ (x : Walked). x .number) h ∙ z)))
+      ∙ rw (ne-eqb (checkOf (layoutFor s) s .number) 0 (λ z. some (ap (λ (x : Walked). x .number) h ∙ z)))
 
   -- and in an accepted one it finds what the definition says.
-  value-is : Bytes s → w .number ≡ 0 → valueIn (layoutOf e) s q ≡ w .value
+  value-is : Bytes s → w .number ≡ 0 → valueIn (layoutFor s) s q ≡ w .value
   unfolding walkedOf
   value-is bytes z =
-      let tree = proved .streams e .exactly s bytes .0 (sym (ap (λ (x : Walked). x .number) h) ∙ z) in
-      sym (search-finds e s q (tree .0) (tree .1)) ∙ sym (ap (λ (x : Walked). x .value) h)
+      let tree = proved .streams (editionOf s) .exactly s bytes .0 (sym (ap (λ (x : Walked). x .number) h) ∙ z) in
+      sym (search-finds (editionOf s) s q (tree .0) (tree .1)) ∙ sym (ap (λ (x : Walked). x .value) h)
 
 -- By a walk over each of two streams, in the order of the code: both checks, then the roots together, then the values.
-module _ (e : Edition) (s t : List ℕ) (q : Query) (one two : Walked) (f : one ≡ walkedOf (layoutOf e) s q) (g : two ≡ walkedOf (layoutOf e) t q) where
+module _ (s t : List ℕ) (q : Query) (one two : Walked) (f : one ≡ walkedOf (layoutFor s) s q) (g : two ≡ walkedOf (layoutFor t) t q) where
   abbrev l : Layout
-  l = layoutOf e
+  l = layoutFor s
+
+  abbrev m : Layout
+  m = layoutFor t
 
   abbrev values : Lookup
-  values = orElse 1 (valueIn l s q) (orElse 2 (valueIn l t q) (refusal 15 0))
+  values = orElse 1 (valueIn l s q) (orElse 2 (valueIn m t q) (refusal 15 0))
 
-  decided : lookupOf l s t q
+  decided : lookupOf l m s t q
       ≡ cond (not (eqb (one .number) 0)) (refusal (one .number) (checkOf l s .value))
-      (cond (not (eqb (two .number) 0)) (refusal (two .number) (checkOf l t .value)) (cond (one .group && two .group) values (refusal 7 0)))
+      (cond (not (eqb (two .number) 0)) (refusal (two .number) (checkOf m t .value)) (cond (one .group && two .group) values (refusal 7 0)))
   unfolding lookupOf walkedOf
   decided =
       rw (f, g)
       (ap (λ (r : Lookup). cond (not (eqb (checkOf l s .number) 0)) (refusal (checkOf l s .number) (checkOf l s .value))
-      (cond (not (eqb (checkOf l t .number) 0)) (refusal (checkOf l t .number) (checkOf l t .value)) r))
-      (roots (isGroup (listing l s .units)) (isGroup (listing l t .units)) values))
+      (cond (not (eqb (checkOf m t .number) 0)) (refusal (checkOf m t .number) (checkOf m t .value)) r))
+      (roots (isGroup (listing l s .units)) (isGroup (listing m t .units)) values))
 
-  pub by-first : (one .number ≡ 0 → ⊥) → refusal (one .number) (one .offset) ≡ lookupOf l s t q
-  by-first some = rw (decided, offset-is e s q one f some, ne-eqb (one .number) 0 some)
+  pub by-first : (one .number ≡ 0 → ⊥) → refusal (one .number) (one .offset) ≡ lookupOf l m s t q
+  by-first some = rw (decided, offset-is s q one f some, ne-eqb (one .number) 0 some)
 
   module _ (a : one .number ≡ 0) where
-    pub by-second : (two .number ≡ 0 → ⊥) → refusal (two .number) (two .offset) ≡ lookupOf l s t q
-    by-second some = rw (decided, offset-is e t q two g some, eq-eqb (one .number) 0 a, ne-eqb (two .number) 0 some)
+    pub by-second : (two .number ≡ 0 → ⊥) → refusal (two .number) (two .offset) ≡ lookupOf l m s t q
+    by-second some = rw (decided, offset-is t q two g some, eq-eqb (one .number) 0 a, ne-eqb (two .number) 0 some)
 
     module _ (b : two .number ≡ 0) where
-      pub by-roots : (one .group && two .group) ≡ false → refusal 7 0 ≡ lookupOf l s t q
+      pub by-roots : (one .group && two .group) ≡ false → refusal 7 0 ≡ lookupOf l m s t q
       by-roots h = rw (decided, eq-eqb (one .number) 0 a, eq-eqb (two .number) 0 b, h)
 
       pub by-values : Bytes s → Bytes t → (one .group && two .group) ≡ true →
-          lookupOf l s t q ≡ orElse 1 (one .value) (orElse 2 (two .value) (refusal 15 0))
-      by-values m n h =
-          rw (decided, eq-eqb (one .number) 0 a, eq-eqb (two .number) 0 b, h, value-is e s q one f m a, value-is e t q two g n b)
+          lookupOf l m s t q ≡ orElse 1 (one .value) (orElse 2 (two .value) (refusal 15 0))
+      by-values x y h =
+          rw (decided, eq-eqb (one .number) 0 a, eq-eqb (two .number) 0 b, h, value-is s q one f x a, value-is t q two g y b)
 
 -- The answer by the two values.
 module _ (v w : Value) (x : Lookup) (e : x ≡ orElse 1 v (orElse 2 w (refusal 15 0))) where

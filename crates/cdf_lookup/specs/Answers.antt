@@ -4,8 +4,7 @@ use mathlib.Core.Path.{_≡_}
 use mathlib.Core.List.{List}
 use denote.Ref.{RefT, ptr, now}
 use lib.ListN.{take, drop}
-use Rattle.cdf_unit_prefix.specs.Layout.{layoutOf}
-use Rattle.cdf_unit_prefix.specs.declared.Edition.the-variants.{First}
+use Rattle.cdf_unit_prefix.specs.Layout.{layoutFor}
 use Rattle.cdf_lookup_spec.specs.Find.{query, lookupOf}
 use Rattle.cdf_lookup_spec.specs.Chosen.{streamOf}
 use Rattle.cdf_lookup_spec.specs.declared.Lookup.{Lookup}
@@ -14,10 +13,10 @@ use Rattle.cdf_lookup_spec.specs.declared.Lookup.{Lookup}
 abbrev pub Lent : Type 0
 Lent = RefT (List ℕ)
 
--- By the bytes of two streams of the first edition, of a template's name, of a key of this id, and of a field's name.
+-- By the bytes of two streams, each of its own edition, of a template's name, of a key of this id, and of a field's name.
 abbrev pub due : Lent → Lent → Lent → ℕ → Lent → Lent → Lookup
 due first second template kind key field =
-    lookupOf (layoutOf First) (now first) (now second) (query (now template) kind (now key) (now field))
+    lookupOf (layoutFor (now first)) (layoutFor (now second)) (now first) (now second) (query (now template) kind (now key) (now field))
 
 -- The part that goes with an answer: its bytes in the stream that the answer names,
 pub record Lends (a : Lookup) (first second part : Lent) : Type 0 where

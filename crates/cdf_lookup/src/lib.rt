@@ -2,8 +2,7 @@
 ghost use Prim.Native.Nat.{_+_, _≤_};
 ghost use mathlib.Core.Path.{_≡_};
 ghost use lib.ListN.{length};
-ghost use Rattle.cdf_unit_prefix.specs.Layout.{layoutOf};
-ghost use Rattle.cdf_unit_prefix.specs.declared.Edition.the-variants.{First};
+ghost use Rattle.cdf_unit_prefix.specs.Layout.{layoutFor};
 ghost use Rattle.cdf_unit_list.specs.Units.{listing};
 ghost use Rattle.cdf_lookup_spec.specs.Find.{refusal, found, isGroup};
 ghost use Rattle.cdf_lookup_spec.specs.Chosen.{streamOf};
@@ -16,7 +15,7 @@ use cdf_unit_table::ER_GROUP;
 
 // Whether the root of s is an E/R group.
 pub fn is_group(s: &[u8]) -> bool
-    ensures { λ r. ⌜ r ≡ isGroup (listing (layoutOf First) (now (s .entry)) .units) ⌝ }
+    ensures { λ r. ⌜ r ≡ isGroup (listing (layoutFor (now (s .entry))) (now (s .entry)) .units) ⌝ }
 {
     let a = first_unit(s);
     let root = a.handed.unit;

@@ -3,8 +3,7 @@ ghost use Prim.Native.Nat.{_+_, _≤_};
 ghost use mathlib.Core.Path.{_≡_};
 ghost use mathlib.Core.Option.{some};
 ghost use lib.ListN.{length};
-ghost use Rattle.cdf_unit_prefix.specs.Layout.{layoutOf, prefixOf};
-ghost use Rattle.cdf_unit_prefix.specs.declared.Edition.the-variants.{First};
+ghost use Rattle.cdf_unit_prefix.specs.Layout.{layoutOf, layoutFor, prefixOf};
 ghost use Rattle.cdf_lookup_spec.specs.Find.{query, sameBytes, reads, valueOf};
 ghost use Rattle.cdf_lookup_spec.specs.Search.{advanceOf, outcomeOf};
 ghost use Rattle.cdf_lookup_search.specs.Over.{isOver};
@@ -12,10 +11,11 @@ ghost use Rattle.cdf_lookup_search.specs.Placed.{Lies, Placed};
 ghost use Rattle.cdf_lookup_search.specs.Walking.{walkedOf};
 use cdf_lookup_spec::Search;
 use cdf_lookup_spec::Value;
-use cdf_reader::first as first_unit;
+use cdf_reader::first_as;
 use cdf_unit_list::Unit;
 use cdf_unit_own::row::NAME_BYTES;
 use cdf_unit_prefix::Edition;
+use cdf_unit_prefix::edition_of;
 use cdf_unit_prefix::prefix;
 use cdf_unit_table::ER_GROUP;
 use cdf_unit_table::FIELD;
@@ -135,21 +135,23 @@ fn is_over(state: Search) -> bool
 
 // Walks over s to its end, a start and nexts until one hands out no unit: what the check says of s, its root, and what a search finds.
 pub fn walk(s: &[u8], template: &[u8], kind: usize, key: &[u8], field: &[u8]) -> Walked
-    ensures is { λ r. ⌜ r ≡ walkedOf (layoutOf First) (now (s .entry)) (query (now (template .entry)) kind (now (key .entry)) (now (field .entry))) ⌝ }
+    ensures is { λ r. ⌜ r ≡
+        walkedOf (layoutFor (now (s .entry))) (now (s .entry)) (query (now (template .entry)) kind (now (key .entry)) (now (field .entry))) ⌝ }
     ensures placed { λ r. ⌜ Placed (length (now (s .entry))) (r .value) ⌝ }
 {
     let row = NAME_BYTES;
-    let mut a = first_unit(s);
+    let edition = edition_of(s);
+    let mut a = first_as(edition, s);
     let root = a.handed.unit;
     let group = root.id == ER_GROUP;
     let mut state = Search::Seeking;
     while a.number == 0 {
         let unit = a.handed.unit;
         if !is_over(state) {
-            state = advance(Edition::First, s, state, unit, template, kind, key, field);
+            state = advance(edition, s, state, unit, template, kind, key, field);
         }
         let p = a.place;
-        a = p.advance(&row, Edition::First, s);
+        a = p.advance(&row, edition, s);
     }
     let value = outcome(state);
     if a.number == 1 {

@@ -42,31 +42,31 @@ check-below : (l : Layout) (s : List ℕ) → checkOf l s .number ≡ 15 → ⊥
 check-below l s e = omega (arith, check-numbers l s (λ z. omega arith))
 
 -- What holds of a refusal that is not 15, of a value of each stream and of 15 holds of the answer.
-module _ (l : Layout) (s t : List ℕ) (q : Query) where
+module _ (l m : Layout) (s t : List ℕ) (q : Query) where
   record Cases (P : Lookup → Type 0) : Type 0 where
     refused : (n at : ℕ) → (n ≡ 0 → ⊥) → (n ≡ 15 → ⊥) → P (refusal n at)
     first : (a e : ℕ) → valueIn l s q ≡ At a e → P (found 1 a e)
-    second : (a e : ℕ) → valueIn l s q ≡ Missing → valueIn l t q ≡ At a e → P (found 2 a e)
-    neither : valueIn l s q ≡ Missing → valueIn l t q ≡ Missing → P (refusal 15 0)
+    second : (a e : ℕ) → valueIn l s q ≡ Missing → valueIn m t q ≡ At a e → P (found 2 a e)
+    neither : valueIn l s q ≡ Missing → valueIn m t q ≡ Missing → P (refusal 15 0)
 
-  searched : (P : Lookup → Type 0) → Cases P → P (orElse 1 (valueIn l s q) (orElse 2 (valueIn l t q) (refusal 15 0)))
+  searched : (P : Lookup → Type 0) → Cases P → P (orElse 1 (valueIn l s q) (orElse 2 (valueIn m t q) (refusal 15 0)))
   unfolding orElse
-  searched P c = go (valueIn l s q) (valueIn l t q) refl refl
+  searched P c = go (valueIn l s q) (valueIn m t q) refl refl
     where
-      go : (v w : Value) → valueIn l s q ≡ v → valueIn l t q ≡ w → P (orElse 1 v (orElse 2 w (refusal 15 0)))
+      go : (v w : Value) → valueIn l s q ≡ v → valueIn m t q ≡ w → P (orElse 1 v (orElse 2 w (refusal 15 0)))
       go (At a e) w x y = c .first a e x
       go Missing (At a e) x y = c .second a e x y
       go Missing Missing x y = c .neither x y
 
-  answered : (P : Lookup → Type 0) → Cases P → P (lookupOf l s t q)
+  answered : (P : Lookup → Type 0) → Cases P → P (lookupOf l m s t q)
   unfolding lookupOf
   answered P c =
       of-cond P (not (eqb (checkOf l s .number) 0)) _ _
       (λ e. c .refused _ _ (eqb-false _ _ (not-true (eqb (checkOf l s .number) 0) e)) (check-below l s))
-      (λ e. of-cond P (not (eqb (checkOf l t .number) 0)) _ _
-      (λ e. c .refused _ _ (eqb-false _ _ (not-true (eqb (checkOf l t .number) 0) e)) (check-below l t))
+      (λ e. of-cond P (not (eqb (checkOf m t .number) 0)) _ _
+      (λ e. c .refused _ _ (eqb-false _ _ (not-true (eqb (checkOf m t .number) 0) e)) (check-below m t))
       (λ e. of-cond P (not (isGroup (listing l s .units))) _ _ (λ e. c .refused 7 0 (λ z. omega arith) (λ z. omega arith))
-      (λ e. of-cond P (not (isGroup (listing l t .units))) _ _ (λ e. c .refused 7 0 (λ z. omega arith) (λ z. omega arith))
+      (λ e. of-cond P (not (isGroup (listing m t .units))) _ _ (λ e. c .refused 7 0 (λ z. omega arith) (λ z. omega arith))
       (λ e. searched P c))))
 
 -- The value of a stream.
@@ -121,51 +121,51 @@ module _ (l : Layout) (s : List ℕ) (q : Query) where
       go none x z = first-none (isField t) (FieldIn l s q t) (field-tells l s q t) (listing l s .units) x
       go (some u) x z = clash cc
 
-module _ (l : Layout) (s t : List ℕ) (q : Query) where
-  pub named-one : lookupOf l s t q .number ≡ 0 → (lookupOf l s t q .which ≡ 1) ⊎ (lookupOf l s t q .which ≡ 2)
-  named-one = answered l s t q (λ r. r .number ≡ 0 → (r .which ≡ 1) ⊎ (r .which ≡ 2)) (record {
+module _ (l m : Layout) (s t : List ℕ) (q : Query) where
+  pub named-one : lookupOf l m s t q .number ≡ 0 → (lookupOf l m s t q .which ≡ 1) ⊎ (lookupOf l m s t q .which ≡ 2)
+  named-one = answered l m s t q (λ r. r .number ≡ 0 → (r .which ≡ 1) ⊎ (r .which ≡ 2)) (record {
     refused = λ n at some other z. absurd (some z);
     first = λ a e x z. inl refl;
     second = λ a e x y z. inr refl;
     neither = λ x y z. absurd (omega arith);
   })
 
-  pub chosen-part : lookupOf l s t q .number ≡ 0 →
-      Chosen l (streamOf (lookupOf l s t q .which) s t) q (lookupOf l s t q .start) (lookupOf l s t q .size)
-  chosen-part = answered l s t q (λ r. r .number ≡ 0 → Chosen l (streamOf (r .which) s t) q (r .start) (r .size)) (record {
+  pub chosen-part : lookupOf l m s t q .number ≡ 0 →
+      Chosen (streamOf (lookupOf l m s t q .which) l m) (streamOf (lookupOf l m s t q .which) s t) q (lookupOf l m s t q .start) (lookupOf l m s t q .size)
+  chosen-part = answered l m s t q (λ r. r .number ≡ 0 → Chosen (streamOf (r .which) l m) (streamOf (r .which) s t) q (r .start) (r .size)) (record {
     refused = λ n at some other z. absurd (some z);
     first = λ a e x z. chosen l s q a e x;
-    second = λ a e x y z. chosen l t q a e y;
+    second = λ a e x y z. chosen m t q a e y;
     neither = λ x y z. absurd (omega arith);
   })
 
-  pub second-lacks : lookupOf l s t q .which ≡ 2 → Lacks l s q
-  second-lacks = answered l s t q (λ r. r .which ≡ 2 → Lacks l s q) (record {
+  pub second-lacks : lookupOf l m s t q .which ≡ 2 → Lacks l s q
+  second-lacks = answered l m s t q (λ r. r .which ≡ 2 → Lacks l s q) (record {
     refused = λ n at some other z. absurd (omega arith);
     first = λ a e x z. absurd (omega arith);
     second = λ a e x y z. lacks l s q x;
     neither = λ x y z. absurd (omega arith);
   })
 
-  pub both-lack : lookupOf l s t q .number ≡ 15 → Lacks l s q × Lacks l t q
-  both-lack = answered l s t q (λ r. r .number ≡ 15 → Lacks l s q × Lacks l t q) (record {
+  pub both-lack : lookupOf l m s t q .number ≡ 15 → Lacks l s q × Lacks m t q
+  both-lack = answered l m s t q (λ r. r .number ≡ 15 → Lacks l s q × Lacks m t q) (record {
     refused = λ n at some other z. absurd (other z);
     first = λ a e x z. absurd (omega arith);
     second = λ a e x y z. absurd (omega arith);
-    neither = λ x y z. (lacks l s q x, lacks l t q y);
+    neither = λ x y z. (lacks l s q x, lacks m t q y);
   })
 
-  pub refused-empty : (lookupOf l s t q .number ≡ 0 → ⊥) →
-      lookupOf l s t q ≡ refusal (lookupOf l s t q .number) (lookupOf l s t q .offset)
-  refused-empty = answered l s t q (λ r. (r .number ≡ 0 → ⊥) → r ≡ refusal (r .number) (r .offset)) (record {
+  pub refused-empty : (lookupOf l m s t q .number ≡ 0 → ⊥) →
+      lookupOf l m s t q ≡ refusal (lookupOf l m s t q .number) (lookupOf l m s t q .offset)
+  refused-empty = answered l m s t q (λ r. (r .number ≡ 0 → ⊥) → r ≡ refusal (r .number) (r .offset)) (record {
     refused = λ n at some other z. refl;
     first = λ a e x z. absurd (z refl);
     second = λ a e x y z. absurd (z refl);
     neither = λ x y z. refl;
   })
 
-pub equal-first : (l : Layout) (s : List ℕ) (q : Query) → lookupOf l s s q .which ≡ 2 → ⊥
-equal-first l s q = answered l s s q (λ r. r .which ≡ 2 → ⊥) (record {
+pub equal-first : (l : Layout) (s : List ℕ) (q : Query) → lookupOf l l s s q .which ≡ 2 → ⊥
+equal-first l s q = answered l l s s q (λ r. r .which ≡ 2 → ⊥) (record {
   refused = λ n at some other z. omega arith;
   first = λ a e x z. omega arith;
   second = λ a e x y z. clash cc;

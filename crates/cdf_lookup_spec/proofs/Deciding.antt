@@ -48,29 +48,29 @@ value-chosen l s q start size c = (
   rw (c .begins, c .long),
 )
 
-module _ (l : Layout) (s t : List ℕ) (q : Query) where
-  pub first-checked : (Accepted l s → ⊥) → lookupOf l s t q ≡ refusal (checkOf l s .number) (checkOf l s .value)
+module _ (l m : Layout) (s t : List ℕ) (q : Query) where
+  pub first-checked : (Accepted l s → ⊥) → lookupOf l m s t q ≡ refusal (checkOf l s .number) (checkOf l s .value)
   unfolding lookupOf
   first-checked n = rw (ne-eqb (checkOf l s .number) 0 n)
 
-  pub second-checked : Accepted l s → (Accepted l t → ⊥) → lookupOf l s t q ≡ refusal (checkOf l t .number) (checkOf l t .value)
+  pub second-checked : Accepted l s → (Accepted m t → ⊥) → lookupOf l m s t q ≡ refusal (checkOf m t .number) (checkOf m t .value)
   unfolding lookupOf
-  second-checked a n = rw (eq-eqb (checkOf l s .number) 0 a, ne-eqb (checkOf l t .number) 0 n)
+  second-checked a n = rw (eq-eqb (checkOf l s .number) 0 a, ne-eqb (checkOf m t .number) 0 n)
 
   -- What is searched for, of two E/R groups.
   abbrev searching : Lookup
-  searching = orElse 1 (valueIn l s q) (orElse 2 (valueIn l t q) (refusal 15 0))
+  searching = orElse 1 (valueIn l s q) (orElse 2 (valueIn m t q) (refusal 15 0))
 
-  module _ (a : Accepted l s) (b : Accepted l t) where
-    past-checks : lookupOf l s t q
-        ≡ cond (not (isGroup (listing l s .units))) (refusal 7 0) (cond (not (isGroup (listing l t .units))) (refusal 7 0) searching)
+  module _ (a : Accepted l s) (b : Accepted m t) where
+    past-checks : lookupOf l m s t q
+        ≡ cond (not (isGroup (listing l s .units))) (refusal 7 0) (cond (not (isGroup (listing m t .units))) (refusal 7 0) searching)
     unfolding lookupOf
-    past-checks = rw (eq-eqb (checkOf l s .number) 0 a, eq-eqb (checkOf l t .number) 0 b)
+    past-checks = rw (eq-eqb (checkOf l s .number) 0 a, eq-eqb (checkOf m t .number) 0 b)
 
     -- The search's answer is 0 or 15, and has no offset.
     searched : ((searching .number ≡ 0) ⊎ (searching .number ≡ 15)) × (searching .offset ≡ 0)
     unfolding orElse
-    searched = go (valueIn l s q) (valueIn l t q)
+    searched = go (valueIn l s q) (valueIn m t q)
       where
         go : (v w : Value) → let r : Lookup = orElse 1 v (orElse 2 w (refusal 15 0)) in
             ((r .number ≡ 0) ⊎ (r .number ≡ 15)) × (r .offset ≡ 0)
@@ -78,44 +78,44 @@ module _ (l : Layout) (s t : List ℕ) (q : Query) where
         go Missing (At x e) = (inl refl, refl)
         go Missing Missing = (inr refl, refl)
 
-    pub offset-none : lookupOf l s t q .offset ≡ 0
-    offset-none = rw past-checks (go (isGroup (listing l s .units)) (isGroup (listing l t .units)))
+    pub offset-none : lookupOf l m s t q .offset ≡ 0
+    offset-none = rw past-checks (go (isGroup (listing l s .units)) (isGroup (listing m t .units)))
       where
         go : (x y : Bool) → cond (not x) (refusal 7 0) (cond (not y) (refusal 7 0) searching) .offset ≡ 0
         go false y = refl
         go true false = refl
         go true true = searched .1
 
-    pub seven-is : (lookupOf l s t q .number ≡ 7) ↔ ((Grouped l s → ⊥) ⊎ (Grouped l t → ⊥))
-    seven-is = rw past-checks (go (isGroup (listing l s .units)) (isGroup (listing l t .units)) refl refl)
+    pub seven-is : (lookupOf l m s t q .number ≡ 7) ↔ ((Grouped l s → ⊥) ⊎ (Grouped m t → ⊥))
+    seven-is = rw past-checks (go (isGroup (listing l s .units)) (isGroup (listing m t .units)) refl refl)
       where
         not-seven : (searching .number ≡ 0) ⊎ (searching .number ≡ 15) → searching .number ≡ 7 → ⊥
         not-seven (inl x) e = omega arith
         not-seven (inr x) e = omega arith
 
-        none : (r : List ℕ) → isGroup (listing l r .units) ≡ false → Grouped l r → ⊥
-        none r x g = false≢true (sym x ∙ group-test l r g)
+        none : (k : Layout) (r : List ℕ) → isGroup (listing k r .units) ≡ false → Grouped k r → ⊥
+        none k r x g = false≢true (sym x ∙ group-test k r g)
 
-        neither : Grouped l s → Grouped l t → (Grouped l s → ⊥) ⊎ (Grouped l t → ⊥) → ⊥
+        neither : Grouped l s → Grouped m t → (Grouped l s → ⊥) ⊎ (Grouped m t → ⊥) → ⊥
         neither g h (inl n) = n g
         neither g h (inr n) = n h
 
-        go : (x y : Bool) → isGroup (listing l s .units) ≡ x → isGroup (listing l t .units) ≡ y →
-            (cond (not x) (refusal 7 0) (cond (not y) (refusal 7 0) searching) .number ≡ 7) ↔ ((Grouped l s → ⊥) ⊎ (Grouped l t → ⊥))
-        go false y e f = ((λ z. inl (none s e)), λ z. refl)
-        go true false e f = ((λ z. inr (none t f)), λ z. refl)
-        go true true e f = ((λ z. absurd (not-seven (searched .0) z)), λ n. absurd (neither (grouped l s e) (grouped l t f) n))
+        go : (x y : Bool) → isGroup (listing l s .units) ≡ x → isGroup (listing m t .units) ≡ y →
+            (cond (not x) (refusal 7 0) (cond (not y) (refusal 7 0) searching) .number ≡ 7) ↔ ((Grouped l s → ⊥) ⊎ (Grouped m t → ⊥))
+        go false y e f = ((λ z. inl (none l s e)), λ z. refl)
+        go true false e f = ((λ z. inr (none m t f)), λ z. refl)
+        go true true e f = ((λ z. absurd (not-seven (searched .0) z)), λ n. absurd (neither (grouped l s e) (grouped m t f) n))
 
-    module _ (g : Grouped l s) (h : Grouped l t) where
-      past-roots : lookupOf l s t q ≡ searching
-      past-roots = past-checks ∙ rw (group-test l s g, group-test l t h)
+    module _ (g : Grouped l s) (h : Grouped m t) where
+      past-roots : lookupOf l m s t q ≡ searching
+      past-roots = past-checks ∙ rw (group-test l s g, group-test m t h)
 
-      pub grouped-answers : (lookupOf l s t q .number ≡ 0) ⊎ (lookupOf l s t q .number ≡ 15)
+      pub grouped-answers : (lookupOf l m s t q .number ≡ 0) ⊎ (lookupOf l m s t q .number ≡ 15)
       grouped-answers = rw past-roots (searched .0)
 
-pub first-found : (l : Layout) (s t : List ℕ) (q : Query) (start size : ℕ) → Accepted l s → Accepted l t → Grouped l s → Grouped l t →
-    Chosen l s q start size → lookupOf l s t q ≡ record { number = 0; offset = 0; which = 1; start = start; size = size }
+pub first-found : (l m : Layout) (s t : List ℕ) (q : Query) (start size : ℕ) → Accepted l s → Accepted m t → Grouped l s → Grouped m t →
+    Chosen l s q start size → lookupOf l m s t q ≡ record { number = 0; offset = 0; which = 1; start = start; size = size }
 unfolding orElse
-first-found l s t q start size a b g h c =
+first-found l m s t q start size a b g h c =
     let (end, is, long) = value-chosen l s q start size c in
-    past-roots l s t q a b g h ∙ rw (is, long)
+    past-roots l m s t q a b g h ∙ rw (is, long)

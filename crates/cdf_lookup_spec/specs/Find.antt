@@ -115,12 +115,13 @@ unfoldable pub isGroup : List Unit → Bool
 isGroup [] = false
 isGroup (u ∷ us) = eqb (u .id) erGroup
 
--- Refusals, in this order: the first stream's check, the second's, 7 for another root in either, 15 for a field found in neither (02, d).
-unfoldable pub lookupOf : Layout → List ℕ → List ℕ → Query → Lookup
+-- Each stream is read in its own layout. Refusals, in this order: the first stream's check, the second's, 7 for another root in either, 15 for a
+-- field found in neither (02, d).
+unfoldable pub lookupOf : Layout → Layout → List ℕ → List ℕ → Query → Lookup
 unfolding checkOf listing valueIn orElse isGroup
-lookupOf l s t q =
+lookupOf l m s t q =
     cond (not (eqb (checkOf l s .number) 0)) (refusal (checkOf l s .number) (checkOf l s .value))
-    (cond (not (eqb (checkOf l t .number) 0)) (refusal (checkOf l t .number) (checkOf l t .value))
+    (cond (not (eqb (checkOf m t .number) 0)) (refusal (checkOf m t .number) (checkOf m t .value))
     (cond (not (isGroup (listing l s .units))) (refusal 7 0)
-    (cond (not (isGroup (listing l t .units))) (refusal 7 0)
-    (orElse 1 (valueIn l s q) (orElse 2 (valueIn l t q) (refusal 15 0))))))
+    (cond (not (isGroup (listing m t .units))) (refusal 7 0)
+    (orElse 1 (valueIn l s q) (orElse 2 (valueIn m t q) (refusal 15 0))))))

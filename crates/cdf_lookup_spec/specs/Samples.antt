@@ -57,7 +57,7 @@ fieldAsked key = query (1 ∷ 0x50 ∷ []) 7 (key ∷ []) (1 ∷ 0x4e ∷ [])
 -- In two streams of the first edition.
 unfoldable look : List ℕ → List ℕ → Query → Lookup
 unfolding lookupOf
-look s t q = lookupOf (layoutOf First) s t q
+look s t q = lookupOf (layoutOf First) (layoutOf First) s t q
 
 unfoldable pub samplesFound : List Lookup
 unfolding look

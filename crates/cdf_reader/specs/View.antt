@@ -3,8 +3,7 @@ use Prim.Native.Nat.{ℕ}
 use mathlib.Core.Bool.{false}
 use mathlib.Core.List.{List}
 use lib.ListN.{take, drop}
-use Rattle.cdf_unit_prefix.specs.Layout.{layoutOf}
-use Rattle.cdf_unit_prefix.specs.declared.Edition.the-variants.{First}
+use Rattle.cdf_unit_prefix.specs.Layout.{layoutFor}
 use Rattle.cdf_reader_spec.specs.Place.{ReaderPlace}
 use Rattle.cdf_reader_spec.specs.Calls.{Reply, Part, noUnit, partOf}
 use Rattle.cdf_reader_spec.specs.Slots.{noOpen, noRanks, placeOf}
@@ -19,7 +18,7 @@ replyOf a = record { number = a .number; offset = a .offset; handed = a .handed;
 
 -- The part of the bytes that GET_STREAM lends from a place, and the bytes of a part.
 abbrev pub partAt : Place → List ℕ → Part
-partAt p s = partOf (layoutOf First) s (view p)
+partAt p s = partOf (layoutFor s) s (view p)
 
 abbrev pub bytesOf : Part → List ℕ → List ℕ
 bytesOf part s = take (part .size) (drop (part .start) s)

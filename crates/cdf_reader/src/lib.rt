@@ -3,8 +3,7 @@
 ghost use mathlib.Core.Path.{_≡_};
 ghost use Prim.Native.Nat.{_+_};
 ghost use denote.Ref.{ptr};
-ghost use Rattle.cdf_unit_prefix.specs.Layout.{layoutOf};
-ghost use Rattle.cdf_unit_prefix.specs.declared.Edition.the-variants.{First};
+ghost use Rattle.cdf_unit_prefix.specs.Layout.{layoutOf, layoutFor};
 ghost use Rattle.cdf_reader_spec.specs.Calls.{firstOf, nextOf, skipOf, takeOf, previousOf, abnormalEnd, callOf};
 ghost use Rattle.cdf_reader_spec.specs.declared.Call.the-variants.{Previous};
 ghost use Rattle.cdf_reader_spec.specs.Closing.{closedAt};
@@ -30,6 +29,7 @@ use cdf_unit_list::Open;
 use cdf_unit_list::Ranked;
 use cdf_unit_list::Unit;
 use cdf_unit_prefix::Edition;
+use cdf_unit_prefix::edition_of;
 
 // Where a reader is: the position; how many units are open, `top` the innermost of them and `o1` to `o3` those around it, from the
 // outermost inwards; the last unit handed out, and whether that one may still be skipped; the ranks of all these. Which place of the
@@ -109,24 +109,26 @@ impl Place {
         }
     }
 
-    // Any call, for streams of the first edition.
+    // Any call.
     pub fn call(self, call: Call, s: &[u8]) -> Answer
-        ensures is { λ r. ⌜ replyOf r ≡ callOf (layoutOf First) (now (s .entry)) (view self) call ⌝ }
+        ensures is { λ r. ⌜ replyOf r ≡ callOf (layoutFor (now (s .entry))) (now (s .entry)) (view self) call ⌝ }
         ensures kept { λ r. ⌜ ((r .number ≡ 0 → ⊥) → r .place ≡ placeKept call self) ⌝ }
         ensures again { λ r. ⌜ (call ≡ Previous → r .place ≡ self) ⌝ }
     {
         let c = self.cursor();
-        let o = call_at(c, Edition::First, call, s);
+        let edition = edition_of(s);
+        let o = call_at(c, edition, call, s);
         answered(o)
     }
 
     // NEXT: closes what ends here, then reads the unit at the position. Numbers 11, 2, 10, 1 and 3 to 9.
     pub fn next(self, s: &[u8]) -> Answer
-        ensures is { λ r. ⌜ replyOf r ≡ nextOf (layoutOf First) (now (s .entry)) (view self) ⌝ }
+        ensures is { λ r. ⌜ replyOf r ≡ nextOf (layoutFor (now (s .entry))) (now (s .entry)) (view self) ⌝ }
         ensures kept { λ r. ⌜ ((r .number ≡ 0 → ⊥) → r .place ≡ self) ⌝ }
     {
         let c = self.cursor();
-        let o = next_at(c, Edition::First, s);
+        let edition = edition_of(s);
+        let o = next_at(c, edition, s);
         answered(o)
     }
 
@@ -143,7 +145,7 @@ impl Place {
 
     // SKIP: moves past the last unit, whatever it holds.
     pub fn skip(self, s: &[u8]) -> Answer
-        ensures is { λ r. ⌜ replyOf r ≡ skipOf (layoutOf First) (now (s .entry)) (view self) ⌝ }
+        ensures is { λ r. ⌜ replyOf r ≡ skipOf (layoutFor (now (s .entry))) (now (s .entry)) (view self) ⌝ }
         ensures kept { λ r. ⌜ ((r .number ≡ 0 → ⊥) → r .place ≡ self) ⌝ }
     {
         self.call(Call::Skip, s)
@@ -151,7 +153,7 @@ impl Place {
 
     // GET_STREAM's number and place: as SKIP, for groups alone.
     pub fn get_stream_place(self, s: &[u8]) -> Answer
-        ensures is { λ r. ⌜ replyOf r ≡ takeOf (layoutOf First) (now (s .entry)) (view self) ⌝ }
+        ensures is { λ r. ⌜ replyOf r ≡ takeOf (layoutFor (now (s .entry))) (now (s .entry)) (view self) ⌝ }
         ensures kept { λ r. ⌜ ((r .number ≡ 0 → ⊥) → r .place ≡ self) ⌝ }
     {
         self.call(Call::GetStream, s)
@@ -159,11 +161,12 @@ impl Place {
 
     // PREVIOUS: hands out the last unit again.
     pub fn previous(self, s: &[u8]) -> Answer
-        ensures is { λ r. ⌜ replyOf r ≡ previousOf (layoutOf First) (now (s .entry)) (view self) ⌝ }
+        ensures is { λ r. ⌜ replyOf r ≡ previousOf (layoutFor (now (s .entry))) (now (s .entry)) (view self) ⌝ }
         ensures kept { λ r. ⌜ r .place ≡ self ⌝ }
     {
         let c = self.cursor();
-        let o = call_at(c, Edition::First, Call::Previous, s);
+        let edition = edition_of(s);
+        let o = call_at(c, edition, Call::Previous, s);
         answered(o)
     }
 
@@ -222,12 +225,13 @@ pub fn first_as(edition: Edition, s: &[u8]) -> Answer
     answered(o)
 }
 
-// FIRST, for streams of the first edition.
+// FIRST.
 pub fn first(s: &[u8]) -> Answer
-    ensures is { λ r. ⌜ replyOf r ≡ firstOf (layoutOf First) (now (s .entry)) ⌝ }
+    ensures is { λ r. ⌜ replyOf r ≡ firstOf (layoutFor (now (s .entry))) (now (s .entry)) ⌝ }
     ensures kept { λ r. ⌜ ((r .number ≡ 0 → ⊥) → r .place ≡ noPlace) ⌝ }
 {
-    first_as(Edition::First, s)
+    let edition = edition_of(s);
+    first_as(edition, s)
 }
 
 // GET_STREAM: the part of the lent stream that is the group, and where the number is not 0, the empty part at the front.

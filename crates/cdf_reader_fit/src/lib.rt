@@ -54,7 +54,7 @@ pub fn is_chain(
 }
 
 // The highest rank at a position. A division by a constant, in a branch for each edition: a product with a caller's number may overflow.
-fn most_rank(edition: Edition, position: usize) -> usize
+pub fn most_rank(edition: Edition, position: usize) -> usize
     ensures { λ r. ⌜ r ≡ position / prefixOf (layoutOf edition) ⌝ }
 {
     match edition {

@@ -9,7 +9,7 @@ use lib.Dec.{leb, eqb}
 use Rattle.cdf_unit_table.specs.States.{nothing}
 use Rattle.cdf_unit_table.proofs.Bools.{both}
 use Rattle.cdf_unit_prefix.specs.Layout.{Layout, layoutOf, prefixOf}
-use Rattle.cdf_unit_prefix.specs.declared.Edition.the-variants.{First}
+use Rattle.cdf_unit_prefix.specs.declared.Edition.{Edition}
 use Rattle.cdf_unit_list.specs.declared.Open.{Open}
 use Rattle.cdf_reader_spec.specs.Place.{every, fits}
 use Rattle.cdf_reader_spec.specs.Slots.{around, openUnits, openRanks}
@@ -34,9 +34,9 @@ unfolding openUnits chain
 ends-in l n zero top o1 o2 o3 e = absurd (false≢true e)
 ends-in l n (suc k) top o1 o2 o3 e = ends-most n top (around o1 o2 o3 k) (chain-clauses l n (top ∷ around o1 o2 o3 k) e .2)
 
-module _ (n : ℕ) (p : Place) where
+module _ (edition : Edition) (n : ℕ) (p : Place) where
   abbrev l : Layout
-  l = layoutOf First
+  l = layoutOf edition
 
   abbrev Fits : Bool
   Fits = fits l n (view p)
@@ -59,7 +59,7 @@ module _ (n : ℕ) (p : Place) where
   pub not-in : p .top .end < p .position → false ≡ Fits
   not-in = end-not l n (p .position) (p .count) (p .top) (p .o1) (p .o2) (p .o3) (p .last) (p .fresh) (p .ranks)
 
-  pub not-last : lasts n p ≡ false → false ≡ Fits
+  pub not-last : lasts l n p ≡ false → false ≡ Fits
   not-last = go (p .fresh) refl
     where
       go : (b : Bool) → p .fresh ≡ b → cond b Entered Bounds ≡ false → false ≡ Fits
@@ -68,9 +68,9 @@ module _ (n : ℕ) (p : Place) where
       go false f e = bounds-not l n (p .position) (p .count) (p .top) (p .o1) (p .o2) (p .o3) (p .last) (p .fresh) (p .ranks) e
 
   -- A rank is at most the quotient if its product is at most the position.
-  module _ (most : ℕ) (is : most ≡ p .position / 6) where
+  module _ (most : ℕ) (is : most ≡ p .position / prefixOf l) where
     low : (k : ℕ) → leb k most ≡ Low k
-    low k = rw is (by-quotient First k (p .position))
+    low k = rw is (by-quotient edition k (p .position))
 
     pub not-ranked : most < p .ranks .last → false ≡ Fits
     unfolding every
@@ -79,7 +79,7 @@ module _ (n : ℕ) (p : Place) where
         (rw (sym (low (p .ranks .last)) ∙ lt-leb (p .ranks .last) most h))
 
     module _ (past : leb (p .top .start + prefixOf l) (p .position) ≡ true) (within : p .position ≤ p .top .end)
-        (last : lasts n p ≡ true) (rank : p .ranks .last ≤ most) where
+        (last : lasts l n p ≡ true) (rank : p .ranks .last ≤ most) where
       -- What the flag asks; where it is on, the last unit is the innermost, whose bounds were asked already.
       flagged : (b : Bool) → cond b Entered Bounds ≡ true → (not b || Entered) ≡ true
       flagged true e = e
@@ -121,7 +121,7 @@ module _ (n : ℕ) (p : Place) where
           absurd (false≢true
           (sym c ∙ clauses-chain l n (openUnits (p .count) (p .top) (p .o1) (p .o2) (p .o3)) (f .kinds) (f .starts) (f .ends))))
 
-      pub by-held : held n most p (p .count) ≡ Fits
+      pub by-held : held l n most p (p .count) ≡ Fits
       unfolding held
       by-held =
           ap (λ b. Chain && b) (every-same (λ k. leb k most) Low low (openRanks (p .count) (p .ranks))) ∙ by-both Chain refl Lows refl

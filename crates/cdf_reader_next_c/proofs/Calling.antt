@@ -7,8 +7,7 @@ use native.Mathlib.Omega.{arith}
 use borrow.Author.Tests.{eqb-true, eqb-false}
 use lib.Dec.{eqb}
 use lib.ListN.{length}
-use Rattle.cdf_unit_prefix.specs.Layout.{layoutOf}
-use Rattle.cdf_unit_prefix.specs.declared.Edition.the-variants.{First}
+use Rattle.cdf_unit_prefix.specs.Layout.{layoutFor}
 use Rattle.cdf_reader_spec.specs.Place.{ReaderPlace, fits}
 use Rattle.cdf_reader_spec.specs.Calls.{Reply, noPart, callOf, partTaken}
 use Rattle.cdf_reader_spec.specs.declared.Call.the-variants.{Next}
@@ -40,7 +39,7 @@ module _ (s before : List ℕ) where
   c = cursorOf (placeFrom before)
 
   abbrev Due : Reply
-  Due = callOf (layoutOf First) s v Next
+  Due = callOf (layoutFor s) s v Next
 
   -- What a step's promise says of the reply that is due to NEXT is what is promised of the call.
   called : (number : ℕ) (after answer : List ℕ) (r : Reply) → r ≡ Due → Stepped r before number after answer → Called Next s before number after answer
@@ -64,14 +63,14 @@ module _ (s before : List ℕ) where
       (record { told = refl; answers = refl; moves = refl; stays = λ some. refl; written = λ none. absurd (some none) })
 
   pub empty : placeFrom before .count ≡ 0 → Called Next s before 11 before (0 ∷ 0 ∷ 0 ∷ 0 ∷ 0 ∷ 0 ∷ 0 ∷ 0 ∷ 0 ∷ 0 ∷ [])
-  empty e = refused 11 (λ z. omega arith) (useless c (layoutOf First) s Next (next-none c e) (refusal 11 0 c) refl .0)
+  empty e = refused 11 (λ z. omega arith) (useless c (layoutFor s) s Next (next-none c e) (refusal 11 0 c) refl .0)
 
-  pub no-fit : (placeFrom before .count ≡ 0 → ⊥) → fits (layoutOf First) (length s) v ≡ false →
+  pub no-fit : (placeFrom before .count ≡ 0 → ⊥) → fits (layoutFor s) (length s) v ≡ false →
       Called Next s before 2 before (0 ∷ 0 ∷ 0 ∷ 0 ∷ 0 ∷ 0 ∷ 0 ∷ 0 ∷ 0 ∷ 0 ∷ [])
-  no-fit some e = refused 2 (λ z. omega arith) (unfit c (layoutOf First) s Next (next-some c some) e (refusal 2 0 c) refl .0)
+  no-fit some e = refused 2 (λ z. omega arith) (unfit c (layoutFor s) s Next (next-some c some) e (refusal 2 0 c) refl .0)
 
   -- At a place that fits a step is NEXT.
-  pub steps : fits (layoutOf First) (length s) v ≡ true → (number : ℕ) (after answer : List ℕ) →
-      Stepped (advanced (layoutOf First) s v) before number after answer → Called Next s before number after answer
+  pub steps : fits (layoutFor s) (length s) v ≡ true → (number : ℕ) (after answer : List ℕ) →
+      Stepped (advanced (layoutFor s) s v) before number after answer → Called Next s before number after answer
   steps fit number after answer w =
-      called number after answer _ (advances (layoutOf First) s v fit ∙ sym (next-named (layoutOf First) s v)) w
+      called number after answer _ (advances (layoutFor s) s v fit ∙ sym (next-named (layoutFor s) s v)) w

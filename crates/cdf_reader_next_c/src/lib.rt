@@ -4,6 +4,7 @@ ghost use Rattle.cdf_reader_spec.specs.declared.Call.the-variants.{Next};
 ghost use Rattle.cdf_reader_numbers.specs.Numbers.{Called};
 use cdf_reader_fit_numbers::fits_at;
 use cdf_reader_step_numbers::step_at;
+use cdf_unit_prefix::edition_of;
 
 // NEXT: hands out the next unit.
 #[no_mangle]
@@ -14,10 +15,11 @@ pub extern "C" fn cdf_next(s: &[u8], place: &mut [u64; 25], answer: &mut [u64; 1
         *answer = [0; 10];
         return 11;
     }
+    let edition = edition_of(s);
     let n = s.len();
-    if !fits_at(n, place) {
+    if !fits_at(edition, n, place) {
         *answer = [0; 10];
         return 2;
     }
-    step_at(s, place, answer)
+    step_at(edition, s, place, answer)
 }

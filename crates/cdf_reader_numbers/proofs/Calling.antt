@@ -5,8 +5,7 @@ use mathlib.Core.Bool.{true, false, not, true≢false}
 use mathlib.Core.List.{List}
 use borrow.Author.Tests.{ne-eqb}
 use lib.Dec.{eqb}
-use Rattle.cdf_unit_prefix.specs.Layout.{layoutOf}
-use Rattle.cdf_unit_prefix.specs.declared.Edition.the-variants.{First}
+use Rattle.cdf_unit_prefix.specs.Layout.{layoutFor}
 use Rattle.cdf_reader_spec.specs.Place.{ReaderPlace}
 use Rattle.cdf_reader_spec.specs.Calls.{Reply, Part, isStart, callOf, partTaken}
 use Rattle.cdf_reader_spec.specs.declared.Call.{Call}
@@ -25,20 +24,20 @@ use Rattle.cdf_reader_numbers.proofs.Written.{read-again}
 module _ (s : List ℕ) (v : ReaderPlace) where
   -- The part goes by the call's number.
   pub taken-is : (c : Call) →
-      partTaken (layoutOf First) s v c ≡ partBy c (callOf (layoutOf First) s v c .number) (v .last .start) (v .last .end)
+      partTaken (layoutFor s) s v c ≡ partBy c (callOf (layoutFor s) s v c .number) (v .last .start) (v .last .end)
   unfolding partTaken
   taken-is Start = refl
   taken-is Next = refl
   taken-is Skip = refl
-  taken-is GetStream = rw take-named (part-is (layoutOf First) s v)
+  taken-is GetStream = rw take-named (part-is (layoutFor s) s v)
   taken-is Previous = refl
 
   -- It lies in the bytes.
-  pub take-within : (c : Call) → isTake c ≡ true → callOf (layoutOf First) s v c .number ≡ 0 → v .last .start ≤ v .last .end
+  pub take-within : (c : Call) → isTake c ≡ true → callOf (layoutFor s) s v c .number ≡ 0 → v .last .start ≤ v .last .end
   take-within Start e z = absurd (true≢false (sym e))
   take-within Next e z = absurd (true≢false (sym e))
   take-within Skip e z = absurd (true≢false (sym e))
-  take-within GetStream e z = part-within (layoutOf First) s v (rw take-named at z) .0
+  take-within GetStream e z = part-within (layoutFor s) s v (rw take-named at z) .0
   take-within Previous e z = absurd (true≢false (sym e))
 
 -- What a call keeps was not a start's to clear, and is the place that was given;
@@ -72,7 +71,7 @@ cleared-by Previous n e h = absurd (true≢false e)
 pub record Answered (c : Call) (s before : List ℕ) (a : Answer) (answer : List ℕ) : Type 0 where
   pub place : Place
   pub read : place ≡ placeFrom before
-  pub due : replyOf a ≡ callOf (layoutOf First) s (view place) c
+  pub due : replyOf a ≡ callOf (layoutFor s) s (view place) c
   pub kept : (a .number ≡ 0 → ⊥) → a .place ≡ placeKept c place
   pub again : c ≡ Previous → a .place ≡ place
   pub part : Part
@@ -81,15 +80,15 @@ pub record Answered (c : Call) (s before : List ℕ) (a : Answer) (answer : List
 
 module _ {c : Call} {s before answer : List ℕ} {a : Answer} (w : Answered c s before a answer) where
   -- The reply and the part are those due to the numbers.
-  due-is : replyOf a ≡ callOf (layoutOf First) s (view (placeFrom before)) c
-  due-is = w .due ∙ ap (λ (q : Place). callOf (layoutOf First) s (view q) c) (w .read)
+  due-is : replyOf a ≡ callOf (layoutFor s) s (view (placeFrom before)) c
+  due-is = w .due ∙ ap (λ (q : Place). callOf (layoutFor s) s (view q) c) (w .read)
 
-  part-due : w .part ≡ partTaken (layoutOf First) s (view (placeFrom before)) c
+  part-due : w .part ≡ partTaken (layoutFor s) s (view (placeFrom before)) c
   part-due =
       w .by
       ∙ ap (λ (r : Reply). partBy c (r .number) (w .place .last .start) (w .place .last .end)) (w .due)
       ∙ sym (taken-is s (view (w .place)) c)
-      ∙ ap (λ (q : Place). partTaken (layoutOf First) s (view q) c) (w .read)
+      ∙ ap (λ (q : Place). partTaken (layoutFor s) s (view q) c) (w .read)
 
   leaves : (after : List ℕ) → view (placeFrom after) ≡ view (a .place) → ((a .number ≡ 0 → ⊥) → after ≡ numbersKept c before) →
       (keeps c (a .number) ≡ true → after ≡ before) → (keeps c (a .number) ≡ false → after ≡ numbersOf (a .place)) →

@@ -5,8 +5,7 @@ use mathlib.Core.Bool.{Bool, true, false, not, cond}
 use mathlib.Core.List.{List, [], _∷_}
 use lib.Dec.{eqb}
 use lib.ListN.{getD}
-use Rattle.cdf_unit_prefix.specs.Layout.{layoutOf}
-use Rattle.cdf_unit_prefix.specs.declared.Edition.the-variants.{First}
+use Rattle.cdf_unit_prefix.specs.Layout.{layoutFor}
 use Rattle.cdf_unit_list.specs.declared.Open.{Open}
 use Rattle.cdf_reader_spec.specs.Calls.{Reply, Part, isStart, callOf, partTaken}
 use Rattle.cdf_reader_spec.specs.declared.Call.{Call}
@@ -82,10 +81,10 @@ answerNumbers r part =
 
 -- The reply and the part that are due to a call on the place that these numbers are.
 abbrev pub replyTo : Call → List ℕ → List ℕ → Reply
-replyTo c s numbers = callOf (layoutOf First) s (view (placeFrom numbers)) c
+replyTo c s numbers = callOf (layoutFor s) s (view (placeFrom numbers)) c
 
 abbrev pub partTo : Call → List ℕ → List ℕ → Part
-partTo c s numbers = partTaken (layoutOf First) s (view (placeFrom numbers)) c
+partTo c s numbers = partTaken (layoutFor s) s (view (placeFrom numbers)) c
 
 -- The place's numbers after a refusal: those that were given, and zeros after a refused start.
 abbrev pub numbersKept : Call → List ℕ → List ℕ

@@ -4,8 +4,7 @@ use mathlib.Core.Path.{_≡_, refl, sym, ap, _∙_}
 use mathlib.Core.Bool.{Bool, true, false, _&&_, and-true}
 use lib.Dec.{leb, eqb}
 use Rattle.cdf_unit_table.specs.States.{unitOf, rootKind, admitsKind}
-use Rattle.cdf_unit_prefix.specs.Layout.{layoutOf, prefixOf}
-use Rattle.cdf_unit_prefix.specs.declared.Edition.the-variants.{First}
+use Rattle.cdf_unit_prefix.specs.Layout.{Layout, prefixOf}
 use Rattle.cdf_unit_list.specs.declared.Open.{Open}
 use Rattle.cdf_reader_spec.specs.Tests.{spans}
 use Rattle.cdf_reader_fit.proofs.Chains.{too-many}
@@ -26,7 +25,7 @@ four-parted : (k l m o a b c d : Bool) →
     ((k && a) && ((l && b) && ((m && c) && (o && d)))) ≡ ((k && (l && (m && o))) && (a && (b && (c && d))))
 four-parted k l m o a b c d = rw (three-parted l m o b c d) (two-parted k (l && (m && o)) a (b && (c && d)))
 
-module _ (n most : ℕ) (p : Place) where
+module _ (l : Layout) (n most : ℕ) (p : Place) where
   abbrev kinds : Open → Open → Bool
   kinds o i = admitsKind (unitOf (o .state)) (unitOf (i .state))
 
@@ -35,7 +34,7 @@ module _ (n most : ℕ) (p : Place) where
 
   -- The second lies in the first; the root spans the bytes.
   abbrev inside : Open → Open → Bool
-  inside o i = leb (o .start + prefixOf (layoutOf First)) (i .start) && leb (i .end) (o .end)
+  inside o i = leb (o .start + prefixOf l) (i .start) && leb (i .end) (o .end)
 
   abbrev whole : Bool
   whole = eqb (p .o1 .start) 0 && eqb (p .o1 .end) n
@@ -43,15 +42,15 @@ module _ (n most : ℕ) (p : Place) where
   abbrev low : ℕ → Bool
   low k = leb k most
 
-  pub one : (spans n (p .top) && low (p .ranks .top)) ≡ held n most p 1
+  pub one : (spans n (p .top) && low (p .ranks .top)) ≡ held l n most p 1
   unfolding held
   one = sym (rw and-true)
 
   -- The kinds are tested first: where they are not right, nothing else is asked.
   abbrev Asked : ℕ → Bool → Bool → Type 0
-  Asked count k rest = (k ≡ false → false ≡ held n most p count) × (k ≡ true → rest ≡ held n most p count)
+  Asked count k rest = (k ≡ false → false ≡ held l n most p count) × (k ≡ true → rest ≡ held l n most p count)
 
-  asked : (count : ℕ) (k lies lows : Bool) → held n most p count ≡ ((k && lies) && lows) → Asked count k (lies && lows)
+  asked : (count : ℕ) (k lies lows : Bool) → held l n most p count ≡ ((k && lies) && lows) → Asked count k (lies && lows)
   asked count k lies lows is = (λ e. sym (is ∙ rw e), λ e. sym (is ∙ rw e))
 
   -- Of two units: their kinds, where they lie and their ranks; then of three and of four.
@@ -101,6 +100,6 @@ module _ (n most : ℕ) (p : Place) where
       (ap (λ b. b && lows4) (four-parted (kinds (p .o3) (p .top)) (kinds (p .o2) (p .o3)) (kinds (p .o1) (p .o2)) root _ _ _ whole)))
 
   -- No other number of units holds.
-  pub other : (count : ℕ) → (count ≡ 1 → ⊥) → (count ≡ 2 → ⊥) → (count ≡ 3 → ⊥) → (count ≡ 4 → ⊥) → false ≡ held n most p count
+  pub other : (count : ℕ) → (count ≡ 1 → ⊥) → (count ≡ 2 → ⊥) → (count ≡ 3 → ⊥) → (count ≡ 4 → ⊥) → false ≡ held l n most p count
   unfolding held
-  other count a b c d = rw (← too-many (layoutOf First) n count (p .top) (p .o1) (p .o2) (p .o3) a b c d)
+  other count a b c d = rw (← too-many l n count (p .top) (p .o1) (p .o2) (p .o3) a b c d)

@@ -4,8 +4,7 @@ ghost use mathlib.Core.Path.{_≡_};
 ghost use mathlib.Core.List.{[], _∷_, _++_};
 ghost use Prim.Native.Nat.{_*_, _≤_};
 ghost use lib.ListN.{length, drop};
-ghost use Rattle.cdf_unit_prefix.specs.Layout.{layoutOf};
-ghost use Rattle.cdf_unit_prefix.specs.declared.Edition.the-variants.{First};
+ghost use Rattle.cdf_unit_prefix.specs.Layout.{editionOf, layoutFor};
 ghost use Rattle.cdf_unit_data.specs.Standing.{nameRow};
 ghost use Rattle.cdf_reader_spec.specs.Ranking.{depthAt};
 ghost use Rattle.cdf_reader_spec.specs.Calls.{callOf};
@@ -28,6 +27,7 @@ use cdf_reader_use::has_use;
 use cdf_unit_list::Ranked;
 use cdf_unit_own::row::NAME_BYTES;
 use cdf_unit_prefix::Edition;
+use cdf_unit_prefix::edition_of;
 
 // What a replay answers: the number, and how many entries it has written.
 pub struct Logged {
@@ -48,17 +48,17 @@ fn last_depth(c: Cursor) -> usize
 }
 
 // Any call at a place that the loop holds, with the row of name bytes: 11, then what it does.
-fn turn(c: Cursor, row: &[u8; 256], call: Call, s: &[u8]) -> Outcome
-    requires { ⌜ Held (now s) c × (now row ≡ nameRow) ⌝ }
-    ensures is { λ r. ⌜ outcomeReply r ≡ callOf (layoutOf First) (now (s .entry)) (cursorPlace c) call ⌝ }
+fn turn(c: Cursor, row: &[u8; 256], edition: Edition, call: Call, s: &[u8]) -> Outcome
+    requires { ⌜ Held (now s) c × (now row ≡ nameRow) × (edition ≡ editionOf (now s)) ⌝ }
+    ensures is { λ r. ⌜ outcomeReply r ≡ callOf (layoutFor (now (s .entry))) (now (s .entry)) (cursorPlace c) call ⌝ }
     ensures held { λ r. ⌜ Held (now (s .entry)) (r .cursor) ⌝ }
 {
     if !has_use(call, c.count, c.fresh, c.last.id) {
         return refused(11, 0, c);
     }
     match call {
-        Call::Start => first_as(Edition::First, s),
-        Call::Next => advance(c, row, Edition::First, s),
+        Call::Start => first_as(edition, s),
+        Call::Next => advance(c, row, edition, s),
         Call::Skip => pass(c),
         Call::GetStream => pass(c),
         Call::Previous => {
@@ -106,6 +106,7 @@ fn run(s: &[u8], calls: &[u8], log: &mut [u64]) -> usize
     ensures written { λ r. ⌜ now (log .exit) ≡ logAfter (ranOf (now (s .entry)) (now (calls .entry))) (now (log .entry)) ⌝ }
 {
     let row = NAME_BYTES;
+    let edition = edition_of(s);
     let mut c = no_cursor();
     let mut k = 0;
     let mut at = 0;
@@ -115,7 +116,7 @@ fn run(s: &[u8], calls: &[u8], log: &mut [u64]) -> usize
             return k;
         }
         let call = call_by(code);
-        let o = turn(c, &row, call, s);
+        let o = turn(c, &row, edition, call, s);
         let part = part_of(code, o.number, c.last.start, c.last.end);
         let end = log.len();
         write_entry(&mut log[at..end], o, part);

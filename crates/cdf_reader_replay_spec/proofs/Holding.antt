@@ -6,8 +6,7 @@ use mathlib.Core.List.{List}
 use borrow.Author.Tests.{eqb-true, eqb-false, not-true}
 use lib.Dec.{eqb}
 use Rattle.cdf_unit_table.proofs.Bools.{both}
-use Rattle.cdf_unit_prefix.specs.Layout.{Layout, layoutOf}
-use Rattle.cdf_unit_prefix.specs.declared.Edition.the-variants.{First}
+use Rattle.cdf_unit_prefix.specs.Layout.{Layout, layoutFor}
 use Rattle.cdf_reader_spec.specs.Place.{ReaderPlace}
 use Rattle.cdf_reader_spec.specs.Calls.{Reply, callOf}
 use Rattle.cdf_reader_spec.specs.declared.Call.{Call}
@@ -36,7 +35,7 @@ same-fits l s a b e f = rw e f
 
 module _ (s : List ℕ) (p : Cursor) (held : Held s p) where
   -- A call that has a use, but a start, has an open unit.
-  pub may-go : (c : Call) → Use p c ≡ true → ready p (layoutOf First) s c ≡ true
+  pub may-go : (c : Call) → Use p c ≡ true → ready p (layoutFor s) s c ≡ true
   may-go Start u = refl
   may-go Next u = held (eqb-false (p .count) 0 (not-true _ u))
   may-go Skip u = held (eqb-false (p .count) 0 (not-true _ (both _ _ u .0)))
@@ -52,14 +51,14 @@ module _ (s : List ℕ) (p : Cursor) (held : Held s p) where
 
   -- What is promised of a call's answer, and that the loop may go on with it.
   pub goes-on : (c : Call) (r : Outcome) →
-      (outcomeReply r ≡ callOf (layoutOf First) s (cursorPlace p) c)
+      (outcomeReply r ≡ callOf (layoutFor s) s (cursorPlace p) c)
       × (((r .number ≡ 0 → ⊥) → r .cursor ≡ cursorKept c p) × (c ≡ Previous → r .cursor ≡ p)) →
-      (outcomeReply r ≡ callOf (layoutOf First) s (cursorPlace p) c) × Held s (r .cursor)
+      (outcomeReply r ≡ callOf (layoutFor s) s (cursorPlace p) c) × Held s (r .cursor)
   goes-on c r w = (w .0, go (eqb (r .number) 0) refl)
     where
       go : (b : Bool) → eqb (r .number) 0 ≡ b → Held s (r .cursor)
       go true e =
-          let due = callOf (layoutOf First) s (cursorPlace p) c in
-          let fit = same-fits (layoutOf First) s (outcomeReply r) due (w .0) (returned (layoutOf First) s (cursorPlace p) c) in
+          let due = callOf (layoutFor s) s (cursorPlace p) c in
+          let fit = same-fits (layoutFor s) s (outcomeReply r) due (w .0) (returned (layoutFor s) s (cursorPlace p) c) in
           λ some. fit (eqb-true (r .number) 0 e)
       go false e = rw (w .1 .0 (eqb-false (r .number) 0 e)) (kept-held c)

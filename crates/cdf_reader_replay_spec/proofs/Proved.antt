@@ -4,8 +4,7 @@ use mathlib.Core.Path.{_≡_, refl, ap, _∙_}
 use mathlib.Core.Bool.{cond}
 use mathlib.Core.List.{List, [], _∷_, _++_}
 use lib.ListN.{length, replicate}
-use Rattle.cdf_unit_prefix.specs.Layout.{layoutOf}
-use Rattle.cdf_unit_prefix.specs.declared.Edition.the-variants.{First}
+use Rattle.cdf_unit_prefix.specs.Layout.{editionOf, layoutFor}
 use Rattle.cdf_reader_spec.specs.declared.Call.the-variants.{Start, Next}
 use Rattle.cdf_reader_plain.specs.Calls.{Told}
 use Rattle.cdf_reader_plain.proofs.Proved.{proved as plain}
@@ -40,16 +39,16 @@ pub proved : Claims
 proved = record {
   entry-written = entry-written;
   replays = λ s t stream.
-      let r = plain .reads First s t stream in (
+      let r = plain .reads (editionOf s) s t stream in (
         r .0,
         r .1,
         r .2,
         λ codes. writes s (1 ∷ codes) _ (rw (calls-known 1 codes refl) (r .3 .answers (callsOf codes))),
       );
-  replays-nexts = λ s some k. writes s (1 ∷ replicate k 2) _ (rw (started k) (plain .nexts (layoutOf First) s some k));
+  replays-nexts = λ s some k. writes s (1 ∷ replicate k 2) _ (rw (started k) (plain .nexts (layoutFor s) s some k));
   replays-few = λ s k. (
     ranOf s (1 ∷ replicate k 2),
     writes s (1 ∷ replicate k 2) (ranOf s (1 ∷ replicate k 2)) refl,
-    rw (started k) (plain .few (layoutOf First) s k),
+    rw (started k) (plain .few (layoutFor s) s k),
   );
 }

@@ -9,8 +9,7 @@ use borrow.Rule.Slice.PartMut.{putMid}
 use lib.ListN.{length, take, drop, getD, length-append, length-drop, drop-of-length-le}
 use lib.Seq.{take-at, drop-at, drop-cons, drop-drop, append-snoc}
 use Rattle.cdf_unit_table.proofs.Parts.{rest}
-use Rattle.cdf_unit_prefix.specs.Layout.{layoutOf}
-use Rattle.cdf_unit_prefix.specs.declared.Edition.the-variants.{First}
+use Rattle.cdf_unit_prefix.specs.Layout.{layoutFor}
 use Rattle.cdf_reader_spec.specs.Place.{ReaderPlace}
 use Rattle.cdf_reader_spec.specs.Calls.{Reply, Part, callOf, partTaken}
 use Rattle.cdf_reader_spec.specs.Slots.{openUnits, openRanks}
@@ -54,7 +53,7 @@ calls-none = refl
 module _ (s codes log₀ : List ℕ) where
   -- The run of the rest from the place of a cursor.
   abbrev ahead : Cursor → ℕ → List Told
-  ahead c k = readerRun (layoutOf First) s (cursorPlace c) (callsOf (drop k codes))
+  ahead c k = readerRun (layoutFor s) s (cursorPlace c) (callsOf (drop k codes))
 
   pub record Running (log : List ℕ) (c : Cursor) (k at : ℕ) : Type 0 where
     pub held : Held s c
@@ -79,28 +78,28 @@ module _ (s codes log₀ : List ℕ) where
   begun = record { held = λ some. absurd (some refl); within = omega arith; eleven = refl; done = []; count = refl; all = refl; is = refl }
 
   -- What is told of a turn is what the reader tells of its call.
-  told-is : (v : ReaderPlace) (c : Call) (o : Outcome) (part : Part) → outcomeReply o ≡ callOf (layoutOf First) s v c →
+  told-is : (v : ReaderPlace) (c : Call) (o : Outcome) (part : Part) → outcomeReply o ≡ callOf (layoutFor s) s v c →
       part ≡ partBy c (o .number) (v .last .start) (v .last .end) →
-      toldOf o part ≡ tells (layoutOf First) s v c
+      toldOf o part ≡ tells (layoutFor s) s v c
   told-is v c o part is by =
-      let taken : part ≡ partTaken (layoutOf First) s v c =
+      let taken : part ≡ partTaken (layoutFor s) s v c =
       by ∙ ap (λ (r : Reply). partBy c (r .number) (v .last .start) (v .last .end)) is ∙ sym (taken-is s v c) in
-      ap (telling (outcomeReply o)) taken ∙ ap (λ (r : Reply). telling r (partTaken (layoutOf First) s v c)) is
+      ap (telling (outcomeReply o)) taken ∙ ap (λ (r : Reply). telling r (partTaken (layoutFor s) s v c)) is
 
   module _ {log : List ℕ} {c : Cursor} {k at : ℕ} (r : Running log c k at) where
     pub on : k < length codes → knownCode (getD codes k 0) ≡ true → (tail : List ℕ) (o : Outcome) (part : Part) →
-        outcomeReply o ≡ callOf (layoutOf First) s (cursorPlace c) (callBy (getD codes k 0)) → Held s (o .cursor) →
+        outcomeReply o ≡ callOf (layoutFor s) s (cursorPlace c) (callBy (getD codes k 0)) → Held s (o .cursor) →
         part ≡ partBy (callBy (getD codes k 0)) (o .number) (c .last .start) (c .last .end) →
         tail ≡ entryOf (toldOf o part) ++ drop 11 (take (length log - at) (drop at log)) →
         Running (putMid at (length log - at) log tail) (o .cursor) (k + 1) (at + 11)
     on less known tail o part w held by is =
         let code = getD codes k 0 in
-        let told = tells (layoutOf First) s (cursorPlace c) (callBy code) in
+        let told = tells (layoutFor s) s (cursorPlace c) (callBy code) in
         let calls : callsOf (drop k codes) ≡ callBy code ∷ callsOf (drop (suc k) codes) =
         rw (drop-cons codes k 0 less) (calls-known code (drop (suc k) codes) known) in
         let next : ahead c k ≡ told ∷ ahead (o .cursor) (suc k) =
-        rw calls (reader-on (layoutOf First) s (cursorPlace c) (callBy code) (callsOf (drop (suc k) codes))
-        ∙ ap (λ (r : Reply). told ∷ readerRun (layoutOf First) s (r .place) (callsOf (drop (suc k) codes))) (sym w)) in
+        rw calls (reader-on (layoutFor s) s (cursorPlace c) (callBy code) (callsOf (drop (suc k) codes))
+        ∙ ap (λ (r : Reply). told ∷ readerRun (layoutFor s) s (r .place) (callsOf (drop (suc k) codes))) (sym w)) in
         let front = entries (r .done) in
         let size : length front ≡ at = omega (arith, length-entries (r .done), r .count, r .eleven) in
         let few : length (drop at log) ≤ length log - at = simp length-drop (omega arith) in
@@ -133,8 +132,8 @@ module _ (s codes log₀ : List ℕ) where
     pub finished : callsOf (drop k codes) ≡ [] → (k ≡ length (ranOf s codes)) × (log ≡ logAfter (ranOf s codes) log₀)
     finished none =
         let all : ranOf s codes ≡ r .done =
-        r .all ∙ ap (λ cs. r .done ++ readerRun (layoutOf First) s (cursorPlace c) cs) none
-        ∙ ap (λ ts. r .done ++ ts) (reader-none (layoutOf First) s (cursorPlace c)) ∙ append-nil (r .done) in
+        r .all ∙ ap (λ cs. r .done ++ readerRun (layoutFor s) s (cursorPlace c) cs) none
+        ∙ ap (λ ts. r .done ++ ts) (reader-none (layoutFor s) s (cursorPlace c)) ∙ append-nil (r .done) in
         (sym (r .count) ∙ ap length (sym all), r .is ∙ ap (λ ts. logAfter ts log₀) (sym all))
 
     pub ended-unknown : k < length codes → knownCode (getD codes k 0) ≡ false → callsOf (drop k codes) ≡ []

@@ -4,8 +4,7 @@ use mathlib.Core.Path.{_≡_}
 use mathlib.Core.Bool.{false}
 use mathlib.Core.List.{List, [], _∷_, _++_}
 use lib.ListN.{length, replicate}
-use Rattle.cdf_unit_prefix.specs.Layout.{layoutOf}
-use Rattle.cdf_unit_prefix.specs.declared.Edition.the-variants.{First}
+use Rattle.cdf_unit_prefix.specs.Layout.{prefixOf, layoutFor}
 use Rattle.cdf_unit_list.specs.Units.{listing}
 use Rattle.cdf_unit_list.specs.Ranks.{rankedUnits}
 use Rattle.cdf_unit_list.specs.Check.{checkOf}
@@ -47,12 +46,12 @@ pub record Claims : Type 0 where
       ≡ 41 ∷ 42 ∷ 43 ∷ 44 ∷ 45 ∷ 46 ∷ 47 ∷ 48 ∷ 49 ∷ 50 ∷ 51
       ∷ 61 ∷ 62 ∷ 63 ∷ 64 ∷ 65 ∷ 66 ∷ 67 ∷ 68 ∷ 69 ∷ 70 ∷ 71 ∷ 91 ∷ 92 ∷ []
   -- First half. Of a stream of the published grammar, begun with a start: the plain reader's answers over the unit list.
-  pub replays : (s : List ℕ) (t : Forest) → Stream (layoutOf First) s t →
-      (first : Ranked) × (rest : List Ranked) × (rankedUnits (layoutOf First) s ≡ first ∷ rest)
+  pub replays : (s : List ℕ) (t : Forest) → Stream (layoutFor s) s t →
+      (first : Ranked) × (rest : List Ranked) × (rankedUnits (layoutFor s) s ≡ first ∷ rest)
       × ((codes : List ℕ) → Writes s (1 ∷ codes) (plainRun first rest (callsOf codes)))
   -- Second half. Of any bytes with a listed unit, a start and k NEXTs: the unit list, and after it for ever the end where the check
   -- accepts, else the check's number and offset.
-  pub replays-nexts : (s : List ℕ) → (listing (layoutOf First) s .units ≡ [] → ⊥) → (k : ℕ) →
-      Writes s (1 ∷ replicate k 2) (handingAll (suc k) (rankedUnits (layoutOf First) s) (everAfter (checkOf (layoutOf First) s)))
-  -- Of any n bytes: at most n / 6 of these answers are 0.
-  pub replays-few : (s : List ℕ) (k : ℕ) → (answers : List Told) × Writes s (1 ∷ replicate k 2) answers × (zeros answers * 6 ≤ length s)
+  pub replays-nexts : (s : List ℕ) → (listing (layoutFor s) s .units ≡ [] → ⊥) → (k : ℕ) →
+      Writes s (1 ∷ replicate k 2) (handingAll (suc k) (rankedUnits (layoutFor s) s) (everAfter (checkOf (layoutFor s) s)))
+  -- Of any n bytes: at most as many of these answers are 0 as prefixes have room in them, n / 6.
+  pub replays-few : (s : List ℕ) (k : ℕ) → (answers : List Told) × Writes s (1 ∷ replicate k 2) answers × (zeros answers * prefixOf (layoutFor s) ≤ length s)

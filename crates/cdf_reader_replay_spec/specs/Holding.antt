@@ -4,8 +4,7 @@ use mathlib.Core.Path.{_≡_}
 use mathlib.Core.Bool.{true}
 use mathlib.Core.List.{List}
 use lib.ListN.{length}
-use Rattle.cdf_unit_prefix.specs.Layout.{layoutOf}
-use Rattle.cdf_unit_prefix.specs.declared.Edition.the-variants.{First}
+use Rattle.cdf_unit_prefix.specs.Layout.{layoutFor}
 use Rattle.cdf_reader_spec.specs.Place.{fits}
 use Rattle.cdf_reader_spec.specs.Calls.{Part}
 use Rattle.cdf_reader_cursor.specs.Outcomes.{cursorPlace}
@@ -15,7 +14,7 @@ use Rattle.cdf_reader_plain.specs.Calls.{Told}
 
 -- A place with an open unit fits.
 abbrev pub Held : List ℕ → Cursor → Type 0
-Held s c = (c .count ≡ 0 → ⊥) → fits (layoutOf First) (length s) (cursorPlace c) ≡ true
+Held s c = (c .count ≡ 0 → ⊥) → fits (layoutFor s) (length s) (cursorPlace c) ≡ true
 
 -- What is told of an outcome, with the part taken.
 abbrev pub toldOf : Outcome → Part → Told

@@ -5,8 +5,7 @@ use mathlib.Core.Bool.{Bool, cond, _&&_}
 use mathlib.Core.List.{List, [], _∷_, _++_}
 use lib.Dec.{eqb, leb, ltb}
 use lib.ListN.{length, drop}
-use Rattle.cdf_unit_prefix.specs.Layout.{layoutOf}
-use Rattle.cdf_unit_prefix.specs.declared.Edition.the-variants.{First}
+use Rattle.cdf_unit_prefix.specs.Layout.{layoutFor}
 use Rattle.cdf_reader_spec.specs.Calls.{emptyPlace}
 use Rattle.cdf_reader_spec.specs.declared.Call.{Call}
 use Rattle.cdf_reader_spec.specs.declared.Call.the-variants.{Start, Next, Skip, GetStream, Previous}
@@ -28,7 +27,7 @@ callsOf (code ∷ codes) = cond (knownCode code) (callBy code ∷ callsOf codes)
 
 -- What the reader tells of each call, from the empty place.
 abbrev pub ranOf : List ℕ → List ℕ → List Told
-ranOf s codes = readerRun (layoutOf First) s emptyPlace (callsOf codes)
+ranOf s codes = readerRun (layoutFor s) s emptyPlace (callsOf codes)
 
 -- An entry of the log: the number, the offset, the part's start and length, the unit (id, action, start, own end, end), and its depth
 -- and rank.

@@ -3,8 +3,7 @@ use Prim.Native.Nat.{ℕ}
 use mathlib.Core.Path.{_≡_, refl, sym, ap, _∙_}
 use mathlib.Core.List.{List, [], _∷_}
 use borrow.Author.Tests.{eq-eqb, ne-eqb}
-use Rattle.cdf_unit_prefix.specs.Layout.{layoutOf}
-use Rattle.cdf_unit_prefix.specs.declared.Edition.the-variants.{First}
+use Rattle.cdf_unit_prefix.specs.Layout.{Layout}
 use Rattle.cdf_reader_spec.specs.Calls.{Reply, noPart}
 use Rattle.cdf_reader_cursor.specs.Outcomes.{cursorPlace, outcomeReply, refusal}
 use Rattle.cdf_reader_cursor.specs.Entering.{entering}
@@ -20,14 +19,14 @@ use Rattle.cdf_reader_turn.specs.Turning.{turned}
 use Rattle.cdf_reader_step_numbers.specs.Numbered.{Stepped}
 use Rattle.cdf_reader_turn.specs.declared.Reading.{Reading}
 
-module _ (s before : List ℕ) (c : Cursor) (at : c ≡ cursorOf (placeFrom before)) (t : Reading)
-    (due : outcomeReply (turned c t) ≡ advanced (layoutOf First) s (cursorPlace c)) where
+module _ (l : Layout) (s before : List ℕ) (c : Cursor) (at : c ≡ cursorOf (placeFrom before)) (t : Reading)
+    (due : outcomeReply (turned c t) ≡ advanced l s (cursorPlace c)) where
   abbrev Due : Reply
-  Due = advanced (layoutOf First) s (view (placeFrom before))
+  Due = advanced l s (view (placeFrom before))
 
   -- The reply due to the numbers is the outcome's.
   due-is : (o : Outcome) → turned c t ≡ o → outcomeReply o ≡ Due
-  due-is o e = ap outcomeReply (sym e) ∙ due ∙ ap (λ (x : Cursor). advanced (layoutOf First) s (cursorPlace x)) at
+  due-is o e = ap outcomeReply (sym e) ∙ due ∙ ap (λ (x : Cursor). advanced l s (cursorPlace x)) at
 
   -- A refusal: the answer has its offset and zeros, and the place stays.
   pub refused : (t .number ≡ 0 → ⊥) → (answer : List ℕ) →

@@ -2,8 +2,7 @@
 use Prim.Native.Nat.{ℕ}
 use mathlib.Core.Path.{_≡_}
 use mathlib.Core.List.{List}
-use Rattle.cdf_unit_prefix.specs.Layout.{layoutOf}
-use Rattle.cdf_unit_prefix.specs.declared.Edition.the-variants.{First}
+use Rattle.cdf_unit_prefix.specs.Layout.{Layout}
 use Rattle.cdf_reader_spec.specs.Calls.{Reply, noPart}
 use Rattle.cdf_reader_advance.specs.Advancing.{advanced}
 use Rattle.cdf_reader.specs.View.{view}
@@ -20,5 +19,5 @@ pub record Stepped (due : Reply) (before : List ℕ) (number : ℕ) (after answe
   pub written : number ≡ 0 → (q : Place) × (view q ≡ due .place) × (after ≡ numbersOf q)
 
 -- The reply that is due to a step at these numbers.
-abbrev pub stepDue : List ℕ → List ℕ → Reply
-stepDue s numbers = advanced (layoutOf First) s (view (placeFrom numbers))
+abbrev pub stepDue : Layout → List ℕ → List ℕ → Reply
+stepDue l s numbers = advanced l s (view (placeFrom numbers))

@@ -2,6 +2,7 @@
 // changes.
 ghost use mathlib.Core.Path.{_≡_};
 ghost use mathlib.Core.List.{[], _∷_};
+ghost use Rattle.cdf_unit_prefix.specs.Layout.{layoutOf};
 ghost use Rattle.cdf_reader_cursor.specs.Entering.{inside, entering};
 ghost use Rattle.cdf_reader.specs.Cursors.{cursorOf, placeWith};
 ghost use Rattle.cdf_reader_numbers.specs.Numbers.{placeFrom, numbersOf};
@@ -136,12 +137,13 @@ fn enter(count: usize, top: Open, handed: Ranked, next: usize, a: &mut [u64; 25]
 }
 
 // A step at any numbers: the number; the answer's numbers are written always, the place's beside 0 alone.
-pub fn step_at(s: &[u8], place: &mut [u64; 25], answer: &mut [u64; 10]) -> u64
-    ensures { λ r. ⌜ Stepped (stepDue (now (s .entry)) (now (place .entry))) (now (place .entry)) r (now (place .exit)) (now (answer .exit)) ⌝ }
+pub fn step_at(edition: Edition, s: &[u8], place: &mut [u64; 25], answer: &mut [u64; 10]) -> u64
+    ensures { λ r. ⌜ Stepped (stepDue (layoutOf edition) (now (s .entry)) (now (place .entry)))
+        (now (place .entry)) r (now (place .exit)) (now (answer .exit)) ⌝ }
 {
     let p = place_from(place);
     let c = p.cursor();
-    let t = turn(c, Edition::First, s);
+    let t = turn(c, edition, s);
     if t.number != 0 {
         refuse(t.offset, answer);
         return t.number as u64;

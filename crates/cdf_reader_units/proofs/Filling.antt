@@ -9,8 +9,7 @@ use borrow.Author.Tests.{eq-eqb, ne-eqb}
 use lib.Dec.{eqb}
 use lib.ListN.{length, drop, length-append, length-drop}
 use lib.Seq.{take-at, drop-at, drop-drop, sets, sets-eq}
-use Rattle.cdf_unit_prefix.specs.Layout.{layoutOf}
-use Rattle.cdf_unit_prefix.specs.declared.Edition.the-variants.{First}
+use Rattle.cdf_unit_prefix.specs.Layout.{layoutFor}
 use Rattle.cdf_unit_data.specs.Standing.{nameRow, rowBytes}
 use Rattle.cdf_unit_list.specs.declared.Ranked.{Ranked}
 use Rattle.cdf_reader_spec.specs.Place.{isEmpty, fits}
@@ -89,17 +88,17 @@ over-number (r ∷ rs) b = rw (ne-eqb (suc (length rs)) 0 (λ z. omega arith)) (
 
 module _ (s : List ℕ) (p : Place) (list₀ : List ℕ) where
   pub record Running (list : List ℕ) (place : Place) (count at : ℕ) : Type 0 where
-    pub fit : fits (layoutOf First) (length s) (view place) ≡ true
+    pub fit : fits (layoutFor s) (length s) (view place) ≡ true
     pub done : List Ranked
     pub many : length done ≡ count
     pub seven : at ≡ 7 * count
     pub left : ℕ
     pub room : roomOf list₀ ≡ count + left
-    pub all : batchFor s p list₀ ≡ over done (batchOf (layoutOf First) s (view place) left)
+    pub all : batchFor s p list₀ ≡ over done (batchOf (layoutFor s) s (view place) left)
     pub is : list ≡ listAfter done list₀
     pub kept : count ≡ 0 → place ≡ p
 
-  pub begun : fits (layoutOf First) (length s) (view p) ≡ true → Running list₀ p 0 0
+  pub begun : fits (layoutFor s) (length s) (view p) ≡ true → Running list₀ p 0 0
   begun f = record {
     fit = f;
     done = [];
@@ -121,7 +120,7 @@ module _ (s : List ℕ) (p : Place) (list₀ : List ℕ) where
     fits-more less = omega (arith, long, r .seven)
 
     -- Where a run ends without a unit.
-    pub ended : (number offset : ℕ) → batchOf (layoutOf First) s (view place) (r .left) ≡ noUnits number offset (view place) →
+    pub ended : (number offset : ℕ) → batchOf (layoutFor s) s (view place) (r .left) ≡ noUnits number offset (view place) →
         Fills s p list₀ (stoppedAt number offset count place) list
     ended number offset e =
         let all = r .all ∙ ap (over (r .done)) e in
@@ -140,12 +139,12 @@ module _ (s : List ℕ) (p : Place) (list₀ : List ℕ) where
     pub full : roomOf list₀ ≤ count → Fills s p list₀ (stoppedAt 0 0 count place) list
     full h =
         let none : r .left ≡ 0 = omega (arith, r .room) in
-        ended 0 0 (ap (batchOf (layoutOf First) s (view place)) none ∙ batch .no-room (layoutOf First) s (view place) (r .fit))
+        ended 0 0 (ap (batchOf (layoutFor s) s (view place)) none ∙ batch .no-room (layoutFor s) s (view place) (r .fit))
 
     module _ (less : count < roomOf list₀) (row : List ℕ) (by : row ≡ nameRow) (a : Answer)
-        (is : replyOf a ≡ advancedBy (rowBytes row) (layoutOf First) s (view place)) where
-      next : replyOf a ≡ nextOf (layoutOf First) s (view place)
-      next = is ∙ reader .advances row by (layoutOf First) s (view place) (r .fit)
+        (is : replyOf a ≡ advancedBy (rowBytes row) (layoutFor s) s (view place)) where
+      next : replyOf a ≡ nextOf (layoutFor s) s (view place)
+      next = is ∙ reader .advances row by (layoutFor s) s (view place) (r .fit)
 
       -- As many turns are left as one and those after it.
       rest : (k : ℕ) × (r .left ≡ suc k)
@@ -159,15 +158,15 @@ module _ (s : List ℕ) (p : Place) (list₀ : List ℕ) where
       pub stops : (a .number ≡ 0 → ⊥) → Fills s p list₀ (stoppedAt (a .number) (a .offset) count place) list
       stops some =
           ended (a .number) (a .offset)
-          (ap (batchOf (layoutOf First) s (view place)) (rest .1)
-          ∙ batch .stops (layoutOf First) s (view place) (rest .0) (λ z. some (ap (λ (x : Reply). x .number) next ∙ z))
+          (ap (batchOf (layoutFor s) s (view place)) (rest .1)
+          ∙ batch .stops (layoutFor s) s (view place) (rest .0) (λ z. some (ap (λ (x : Reply). x .number) next ∙ z))
           ∙ ap (λ (x : Reply). noUnits (x .number) (x .offset) (view place)) (sym next))
 
       -- It hands out one, which is written.
       pub on : a .number ≡ 0 → (after : List ℕ) → after ≡ sets list at (unitNumbers (a .handed)) →
           Running after (a .place) (count + 1) (at + 7)
       on z after written = record {
-        fit = (rw (← next) at (next-fits (layoutOf First) s (view place))) z;
+        fit = (rw (← next) at (next-fits (layoutFor s) s (view place))) z;
         done = r .done ++ (a .handed ∷ []);
         many = simp length-append (omega (arith, r .many));
         seven = omega (arith, r .seven);
@@ -175,10 +174,10 @@ module _ (s : List ℕ) (p : Place) (list₀ : List ℕ) where
         room = omega (arith, r .room, rest .1);
         all =
             r .all
-            ∙ ap (λ n. over (r .done) (batchOf (layoutOf First) s (view place) n)) (rest .1)
-            ∙ ap (over (r .done)) (batch .goes-on (layoutOf First) s (view place) (rest .0) (sym (ap (λ (x : Reply). x .number) next) ∙ z))
-            ∙ ap (λ (x : Reply). over (r .done) (withUnit (x .handed) (batchOf (layoutOf First) s (x .place) (rest .0)))) (sym next)
-            ∙ over-more (r .done) (a .handed) (batchOf (layoutOf First) s (view (a .place)) (rest .0));
+            ∙ ap (λ n. over (r .done) (batchOf (layoutFor s) s (view place) n)) (rest .1)
+            ∙ ap (over (r .done)) (batch .goes-on (layoutFor s) s (view place) (rest .0) (sym (ap (λ (x : Reply). x .number) next) ∙ z))
+            ∙ ap (λ (x : Reply). over (r .done) (withUnit (x .handed) (batchOf (layoutFor s) s (x .place) (rest .0)))) (sym next)
+            ∙ over-more (r .done) (a .handed) (batchOf (layoutFor s) s (view (a .place)) (rest .0));
         is =
             written ∙ ap (λ ns. sets ns at (unitNumbers (a .handed))) (r .is)
             ∙ list-more (r .done) (a .handed) list₀ at (r .seven ∙ ap (λ n. 7 * n) (sym (r .many))) (omega (arith, fits-more less, long));
@@ -202,7 +201,7 @@ module _ (s : List ℕ) (p : Place) (list₀ : List ℕ) where
   empty-is = ap (λ n. eqb n 0) (length-open (p .count) (p .top) (p .o1) (p .o2) (p .o3))
 
   pub none-open : p .count ≡ 0 → Fills s p list₀ (stoppedAt 11 0 0 p) list₀
-  none-open z = turned-down 11 (batch .empty (layoutOf First) s (view p) (roomOf list₀) (empty-is ∙ eq-eqb (p .count) 0 z))
+  none-open z = turned-down 11 (batch .empty (layoutFor s) s (view p) (roomOf list₀) (empty-is ∙ eq-eqb (p .count) 0 z))
 
-  pub no-fit : (p .count ≡ 0 → ⊥) → fits (layoutOf First) (length s) (view p) ≡ false → Fills s p list₀ (stoppedAt 2 0 0 p) list₀
-  no-fit some f = turned-down 2 (batch .unfit (layoutOf First) s (view p) (roomOf list₀) (empty-is ∙ ne-eqb (p .count) 0 some) f)
+  pub no-fit : (p .count ≡ 0 → ⊥) → fits (layoutFor s) (length s) (view p) ≡ false → Fills s p list₀ (stoppedAt 2 0 0 p) list₀
+  no-fit some f = turned-down 2 (batch .unfit (layoutFor s) s (view p) (roomOf list₀) (empty-is ∙ ne-eqb (p .count) 0 some) f)

@@ -3,8 +3,7 @@ use Prim.Native.Nat.{ℕ, _*_, _/_}
 use mathlib.Core.Path.{_≡_}
 use mathlib.Core.List.{List, [], _∷_, _++_}
 use lib.ListN.{length, drop}
-use Rattle.cdf_unit_prefix.specs.Layout.{layoutOf}
-use Rattle.cdf_unit_prefix.specs.declared.Edition.the-variants.{First}
+use Rattle.cdf_unit_prefix.specs.Layout.{layoutFor}
 use Rattle.cdf_unit_list.specs.declared.Ranked.{Ranked}
 use Rattle.cdf_reader.specs.View.{view}
 use Rattle.cdf_reader.specs.declared.Place.{Place}
@@ -30,7 +29,7 @@ roomOf list = length list / 7
 
 -- The batch that is due to a place and a list.
 abbrev pub batchFor : List ℕ → Place → List ℕ → Batch
-batchFor s p list = batchOf (layoutOf First) s (view p) (roomOf list)
+batchFor s p list = batchOf (layoutFor s) s (view p) (roomOf list)
 
 -- What filling a list leaves. Where there is no unit the struct stays too.
 pub record Fills (s : List ℕ) (p : Place) (before : List ℕ) (f : Filled) (after : List ℕ) : Type 0 where

@@ -4,8 +4,7 @@ ghost use mathlib.Core.Bool.{true};
 ghost use Prim.Native.Nat.{_+_, _≤_};
 ghost use lib.ListN.{length};
 ghost use lib.Seq.{sets};
-ghost use Rattle.cdf_unit_prefix.specs.Layout.{layoutOf};
-ghost use Rattle.cdf_unit_prefix.specs.declared.Edition.the-variants.{First};
+ghost use Rattle.cdf_unit_prefix.specs.Layout.{editionOf, layoutFor};
 ghost use Rattle.cdf_reader_spec.specs.Place.{fits};
 ghost use Rattle.cdf_reader.specs.View.{view};
 ghost use Rattle.cdf_reader_units.specs.Filling.{unitNumbers, Fills};
@@ -15,6 +14,7 @@ use cdf_reader_step::is_fit;
 use cdf_unit_list::Ranked;
 use cdf_unit_own::row::NAME_BYTES;
 use cdf_unit_prefix::Edition;
+use cdf_unit_prefix::edition_of;
 
 // What the call answers beside the units in the list: the number and its offset, how many units there are, and the new place.
 pub struct Filled {
@@ -60,8 +60,8 @@ fn stopped(number: usize, offset: usize, count: usize, place: Place) -> Filled
 }
 
 // NEXTs from a place that fits.
-fn run(p: Place, s: &[u8], list: &mut [u64]) -> Filled
-    requires { ⌜ fits (layoutOf First) (length (now s)) (view p) ≡ true ⌝ }
+fn run(p: Place, edition: Edition, s: &[u8], list: &mut [u64]) -> Filled
+    requires { ⌜ (edition ≡ editionOf (now s)) × (fits (layoutFor (now s)) (length (now s)) (view p) ≡ true) ⌝ }
     ensures { λ r. ⌜ Fills (now (s .entry)) p (now (list .entry)) r (now (list .exit)) ⌝ }
 {
     let row = NAME_BYTES;
@@ -70,7 +70,7 @@ fn run(p: Place, s: &[u8], list: &mut [u64]) -> Filled
     let mut count = 0;
     let mut at = 0;
     while count < room {
-        let a = place.advance(&row, Edition::First, s);
+        let a = place.advance(&row, edition, s);
         if a.number != 0 {
             return stopped(a.number, a.offset, count, place);
         }
@@ -90,10 +90,11 @@ pub fn fill(p: Place, s: &[u8], list: &mut [u64]) -> Filled
     if p.count == 0 {
         return stopped(11, 0, 0, p);
     }
+    let edition = edition_of(s);
     let n = s.len();
     let c = p.cursor();
-    if !is_fit(c, Edition::First, n) {
+    if !is_fit(c, edition, n) {
         return stopped(2, 0, 0, p);
     }
-    run(p, s, list)
+    run(p, edition, s, list)
 }

@@ -5,8 +5,7 @@ use mathlib.Core.List.{List, [], _∷_}
 use native.Mathlib.Omega.{arith}
 use lib.ListN.{length, take, drop, getD}
 use lib.Seq.{take-at, drop-at}
-use Rattle.cdf_unit_prefix.specs.Layout.{layoutOf}
-use Rattle.cdf_unit_prefix.specs.declared.Edition.the-variants.{First}
+use Rattle.cdf_unit_prefix.specs.Layout.{layoutFor}
 use Rattle.cdf_unit_list.specs.Ranks.{rankedUnits}
 use Rattle.cdf_unit_list.specs.declared.Ranked.{Ranked}
 use Rattle.cdf_reader_spec.specs.Place.{ReaderPlace}
@@ -38,7 +37,7 @@ module _ {s before list : List ℕ} {number : ℕ} {after listed answer : List �
 
   refused : (number ≡ 0 → ⊥) → (after ≡ before) × (listed ≡ list) × (getD answer 1 0 ≡ 0)
   refused some =
-      let none = batch .refused (layoutOf First) s (view (placeFrom before)) (roomOf list) (λ z. some (w .told ∙ z)) .0 in (
+      let none = batch .refused (layoutFor s) s (view (placeFrom before)) (roomOf list) (λ z. some (w .told ∙ z)) .0 in (
         w .stays none,
         w .fills ∙ ap (λ us. listAfter us list) none ∙ no-numbers list,
         counted ∙ ap length none,
@@ -47,7 +46,7 @@ module _ {s before list : List ℕ} {number : ℕ} {after listed answer : List �
   behind : (drop (7 * getD answer 1 0) listed ≡ drop (7 * getD answer 1 0) list) × (length listed ≡ length list)
   behind =
       let us = batchTo s before list .units in
-      let few = batch .within (layoutOf First) s (view (placeFrom before)) (roomOf list) in (
+      let few = batch .within (layoutFor s) s (view (placeFrom before)) (roomOf list) in (
         ap (λ n. drop (7 * n) listed) counted ∙ ap (drop (7 * length us)) (w .fills)
             ∙ drop-at (unitsNumbers us) (drop (7 * length us) list) (7 * length us) (length-numbers us)
             ∙ sym (ap (λ n. drop (7 * n) list) counted),
@@ -58,16 +57,16 @@ tail-is : (root r : Ranked) (units us vs : List Ranked) (n : ℕ) → units ≡ 
 tail-is root r units us vs n e h = ap (drop 1) (h ∙ ap (take (suc n)) e)
 
 -- After a start a batch of any room is the front of the units behind the root.
-module _ (s place first : List ℕ) (root : Ranked) (units : List Ranked) (e : rankedUnits (layoutOf First) s ≡ root ∷ units) (given : List ℕ)
+module _ (s place first : List ℕ) (root : Ranked) (units : List Ranked) (e : rankedUnits (layoutFor s) s ≡ root ∷ units) (given : List ℕ)
     (c : Called Start s given 0 place first) where
-  behind-root : (room : ℕ) → batchOf (layoutOf First) s (view (placeFrom place)) room .units ≡ take room units
+  behind-root : (room : ℕ) → batchOf (layoutFor s) s (view (placeFrom place)) room .units ≡ take room units
   behind-root room =
-      let begun = start-named (layoutOf First) s (view (placeFrom given)) in
-      let zero : firstOf (layoutOf First) s .number ≡ 0 = sym (c .told ∙ ap (λ (r : Reply). r .number) begun) in
-      let at : view (placeFrom place) ≡ firstOf (layoutOf First) s .place = c .moves ∙ ap (λ (r : Reply). r .place) begun in
-      ap (λ (p : ReaderPlace). batchOf (layoutOf First) s p room .units) at
-      ∙ tail-is root (firstOf (layoutOf First) s .handed) (rankedUnits (layoutOf First) s) units
-      (batchOf (layoutOf First) s (firstOf (layoutOf First) s .place) room .units) room e (batch .reads (layoutOf First) s room zero)
+      let begun = start-named (layoutFor s) s (view (placeFrom given)) in
+      let zero : firstOf (layoutFor s) s .number ≡ 0 = sym (c .told ∙ ap (λ (r : Reply). r .number) begun) in
+      let at : view (placeFrom place) ≡ firstOf (layoutFor s) s .place = c .moves ∙ ap (λ (r : Reply). r .place) begun in
+      ap (λ (p : ReaderPlace). batchOf (layoutFor s) s p room .units) at
+      ∙ tail-is root (firstOf (layoutFor s) s .handed) (rankedUnits (layoutFor s) s) units
+      (batchOf (layoutFor s) s (firstOf (layoutFor s) s .place) room .units) room e (batch .reads (layoutFor s) s room zero)
 
   reads : (list : List ℕ) (number : ℕ) (after listed answer : List ℕ) → Batched s place list number after listed answer →
       Told (take (length list / 7) units) listed answer
@@ -77,9 +76,9 @@ module _ (s place first : List ℕ) (root : Ranked) (units : List Ranked) (e : r
       (list2 : List ℕ) (number2 : ℕ) (after2 listed2 answer2 : List ℕ) → Batched s after list2 number2 after2 listed2 answer2 →
       Told (take (length list2 / 7) (drop (length list / 7) units)) listed2 answer2
   reads-on list number after listed answer w list2 number2 after2 listed2 answer2 v =
-      let next = goes-on (layoutOf First) s (view (placeFrom place)) units behind-root (roomOf list) (roomOf list2) in
+      let next = goes-on (layoutFor s) s (view (placeFrom place)) units behind-root (roomOf list) (roomOf list2) in
       let due : batchTo s after list2 .units ≡ take (length list2 / 7) (drop (length list / 7) units) =
-      ap (λ (p : ReaderPlace). batchOf (layoutOf First) s p (roomOf list2) .units) (w .moves) ∙ next in
+      ap (λ (p : ReaderPlace). batchOf (layoutFor s) s p (roomOf list2) .units) (w .moves) ∙ next in
       rw (← due) (told v)
 
 pub proved : Claims

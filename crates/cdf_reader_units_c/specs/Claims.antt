@@ -3,8 +3,7 @@ use Prim.Native.Nat.{ℕ, _*_, _/_}
 use mathlib.Core.Path.{_≡_}
 use mathlib.Core.List.{List, [], _∷_}
 use lib.ListN.{length, take, drop, getD}
-use Rattle.cdf_unit_prefix.specs.Layout.{layoutOf}
-use Rattle.cdf_unit_prefix.specs.declared.Edition.the-variants.{First}
+use Rattle.cdf_unit_prefix.specs.Layout.{layoutFor}
 use Rattle.cdf_unit_list.specs.Ranks.{rankedUnits}
 use Rattle.cdf_unit_list.specs.declared.Ranked.{Ranked}
 use Rattle.cdf_reader_spec.specs.declared.Call.the-variants.{Start}
@@ -35,10 +34,10 @@ pub record Claims : Type 0 where
       (drop (7 * getD answer 1 0) listed ≡ drop (7 * getD answer 1 0) list) × (length listed ≡ length list)
   -- After a start, of any bytes: the units behind the root, one for every seven numbers of the list, as long as there are some;
   pub reads : (s place first list : List ℕ) (number : ℕ) (after listed answer : List ℕ) (root : Ranked) (units : List Ranked) →
-      rankedUnits (layoutOf First) s ≡ root ∷ units → (given : List ℕ) → Called Start s given 0 place first →
+      rankedUnits (layoutFor s) s ≡ root ∷ units → (given : List ℕ) → Called Start s given 0 place first →
       Batched s place list number after listed answer → Told (take (length list / 7) units) listed answer
   -- and the next call, on the place that this one left, goes on behind them.
   pub reads-on : (s place first list : List ℕ) (number : ℕ) (after listed answer : List ℕ) (root : Ranked) (units : List Ranked) →
-      rankedUnits (layoutOf First) s ≡ root ∷ units → (given : List ℕ) → Called Start s given 0 place first →
+      rankedUnits (layoutFor s) s ≡ root ∷ units → (given : List ℕ) → Called Start s given 0 place first →
       Batched s place list number after listed answer → (list2 : List ℕ) (number2 : ℕ) (after2 listed2 answer2 : List ℕ) →
       Batched s after list2 number2 after2 listed2 answer2 → Told (take (length list2 / 7) (drop (length list / 7) units)) listed2 answer2

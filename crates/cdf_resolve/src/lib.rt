@@ -3,8 +3,7 @@ ghost use mathlib.Core.Path.{_≡_};
 ghost use Prim.Native.Nat.{_+_, _≤_};
 ghost use mathlib.Core.Bool.{true};
 ghost use lib.ListN.{length};
-ghost use Rattle.cdf_unit_prefix.specs.Layout.{layoutOf, prefixOf};
-ghost use Rattle.cdf_unit_prefix.specs.declared.Edition.the-variants.{First};
+ghost use Rattle.cdf_unit_prefix.specs.Layout.{layoutFor, prefixOf};
 ghost use Rattle.cdf_unit_list.specs.Units.{listing};
 ghost use Rattle.cdf_grammar.specs.Claims.{Accepted};
 ghost use Rattle.cdf_lookup_spec.specs.Find.{isGroup};
@@ -15,6 +14,7 @@ use cdf_check::Checked;
 use cdf_check::check;
 use cdf_lookup_search::same;
 use cdf_reader::first as first_unit;
+use cdf_reader::first_as;
 use cdf_resolve_spec::Resolved;
 use cdf_resolve_spec::Tally;
 use cdf_resolve_spec::Worst;
@@ -26,7 +26,7 @@ use cdf_resolve_tally::told;
 use cdf_unit_list::Ranked;
 use cdf_unit_list::Unit;
 use cdf_unit_own::row::NAME_BYTES;
-use cdf_unit_prefix::Edition;
+use cdf_unit_prefix::edition_of;
 use cdf_unit_table::ENTITY_KEY;
 use cdf_unit_table::ER_GROUP;
 use cdf_unit_table::TEMPLATE;
@@ -34,9 +34,9 @@ use cdf_unit_table::TEMPORARY_KEY;
 
 // Whether what starts there, and whose name ends there, has the number and the name of u. The four bytes are compared first.
 fn alike(width: usize, s: &[u8], start: usize, own: usize, u: Unit) -> bool
-    requires { ⌜ (width ≡ prefixOf (layoutOf First)) × Within (layoutOf First) (length (now s)) start own
-        × Within (layoutOf First) (length (now s)) (u .start) (u .own) ⌝ }
-    ensures { λ r. ⌜ r ≡ alikeAt (layoutOf First) (now (s .entry)) u start own ⌝ }
+    requires { ⌜ (width ≡ prefixOf (layoutFor (now s))) × Within (layoutFor (now s)) (length (now s)) start own
+        × Within (layoutFor (now s)) (length (now s)) (u .start) (u .own) ⌝ }
+    ensures { λ r. ⌜ r ≡ alikeAt (layoutFor (now (s .entry))) (now (s .entry)) u start own ⌝ }
 {
     let here = own + width;
     let end = u.own;
@@ -53,9 +53,9 @@ fn alike(width: usize, s: &[u8], start: usize, own: usize, u: Unit) -> bool
 
 // The first of so many templates that has the number and the name of u; their count if none has.
 fn find(width: usize, s: &[u8], starts: &[usize], owns: &[usize], count: usize, u: Unit) -> usize
-    requires { ⌜ (width ≡ prefixOf (layoutOf First)) × Lies (layoutOf First) (length (now s)) (now starts) (now owns) count
-        × Within (layoutOf First) (length (now s)) (u .start) (u .own) ⌝ }
-    ensures { λ r. ⌜ FoundAt (layoutOf First) (now (s .entry)) (now (starts .entry)) (now (owns .entry)) count u r ⌝ }
+    requires { ⌜ (width ≡ prefixOf (layoutFor (now s))) × Lies (layoutFor (now s)) (length (now s)) (now starts) (now owns) count
+        × Within (layoutFor (now s)) (length (now s)) (u .start) (u .own) ⌝ }
+    ensures { λ r. ⌜ FoundAt (layoutFor (now (s .entry))) (now (s .entry)) (now (starts .entry)) (now (owns .entry)) count u r ⌝ }
 {
     let mut i = 0;
     while i < count {
@@ -79,9 +79,9 @@ fn hold(
     ranks: &mut [usize; 256],
     owner: Ranked,
 ) -> Tally
-    requires { ⌜ (width ≡ prefixOf (layoutOf First)) × Ready (layoutOf First) (length (now s)) t (now starts) (now owns) (now ranks)
-        × Within (layoutOf First) (length (now s)) (owner .unit .start) (owner .unit .own) ⌝ }
-    ensures { λ r. ⌜ Held (layoutOf First) (now (s .entry)) (λ p. addOf (layoutOf First) (now (s .entry)) p owner)
+    requires { ⌜ (width ≡ prefixOf (layoutFor (now s))) × Ready (layoutFor (now s)) (length (now s)) t (now starts) (now owns) (now ranks)
+        × Within (layoutFor (now s)) (length (now s)) (owner .unit .start) (owner .unit .own) ⌝ }
+    ensures { λ r. ⌜ Held (layoutFor (now (s .entry))) (now (s .entry)) (λ p. addOf (layoutFor (now (s .entry))) (now (s .entry)) p owner)
         t (now (starts .entry)) (now (owns .entry)) (now (ranks .entry)) r (now (starts .exit)) (now (owns .exit)) (now (ranks .exit)) ⌝ }
 {
     let n = t.templates;
@@ -127,9 +127,9 @@ fn tell(
     list: &mut [u64],
     owner: Ranked,
 ) -> Tally
-    requires { ⌜ (width ≡ prefixOf (layoutOf First)) × Ready (layoutOf First) (length (now s)) t (now starts) (now owns) (now ranks)
-        × Within (layoutOf First) (length (now s)) (owner .unit .start) (owner .unit .own) ⌝ }
-    ensures { λ r. ⌜ Tells (layoutOf First) (now (s .entry)) owner
+    requires { ⌜ (width ≡ prefixOf (layoutFor (now s))) × Ready (layoutFor (now s)) (length (now s)) t (now starts) (now owns) (now ranks)
+        × Within (layoutFor (now s)) (length (now s)) (owner .unit .start) (owner .unit .own) ⌝ }
+    ensures { λ r. ⌜ Tells (layoutFor (now (s .entry))) (now (s .entry)) owner
         t (now (starts .entry)) (now (owns .entry)) (now (ranks .entry)) (now (list .entry)) r (now (list .exit)) ⌝ }
 {
     let n = t.templates;
@@ -167,9 +167,9 @@ fn meet(
     owner: Ranked,
     id: usize,
 ) -> Tally
-    requires { ⌜ (width ≡ prefixOf (layoutOf First)) × Ready (layoutOf First) (length (now s)) t (now starts) (now owns) (now ranks)
-        × OwnerLies (layoutOf First) (length (now s)) id (owner .unit) ⌝ }
-    ensures { λ r. ⌜ Meets (layoutOf First) (now (s .entry)) owner id
+    requires { ⌜ (width ≡ prefixOf (layoutFor (now s))) × Ready (layoutFor (now s)) (length (now s)) t (now starts) (now owns) (now ranks)
+        × OwnerLies (layoutFor (now s)) (length (now s)) id (owner .unit) ⌝ }
+    ensures { λ r. ⌜ Meets (layoutFor (now (s .entry))) (now (s .entry)) owner id
         t (now (starts .entry)) (now (owns .entry)) (now (ranks .entry)) (now (list .entry))
         r (now (starts .exit)) (now (owns .exit)) (now (ranks .exit)) (now (list .exit)) ⌝ }
 {
@@ -188,14 +188,15 @@ fn meet(
 
 // Walks over the units of an accepted E/R group, and tells ranks as far as the list has room.
 fn pass(s: &[u8], list: &mut [u64]) -> Tally
-    requires { ⌜ Accepted (layoutOf First) (now s) × (isGroup (listing (layoutOf First) (now s) .units) ≡ true) ⌝ }
-    ensures { λ r. ⌜ Passed (layoutOf First) (now (s .entry)) (now (list .entry)) r (now (list .exit)) ⌝ }
+    requires { ⌜ Accepted (layoutFor (now s)) (now s) × (isGroup (listing (layoutFor (now s)) (now s) .units) ≡ true) ⌝ }
+    ensures { λ r. ⌜ Passed (layoutFor (now (s .entry))) (now (s .entry)) (now (list .entry)) r (now (list .exit)) ⌝ }
 {
     let row = NAME_BYTES;
     let mut starts = [0; 256];
     let mut owns = [0; 256];
     let mut ranks = [0; 256];
-    let mut a = first_unit(s);
+    let edition = edition_of(s);
+    let mut a = first_as(edition, s);
     let root = a.handed.unit;
     let width = root.own;
     let mut owner = a.handed;
@@ -219,16 +220,16 @@ fn pass(s: &[u8], list: &mut [u64]) -> Tally
         );
         owner = handed;
         let p = a.place;
-        a = p.advance(&row, Edition::First, s);
+        a = p.advance(&row, edition, s);
     }
     t
 }
 
 // Resolves the entity keys of an accepted stream: a first pass decides, a second writes.
 fn resolve_accepted(s: &[u8], list: &mut [u64]) -> Resolved
-    requires { ⌜ Accepted (layoutOf First) (now s) ⌝ }
-    ensures is { λ r. ⌜ r ≡ resolvedOf (layoutOf First) (now (s .entry)) (length (now (list .entry))) ⌝ }
-    ensures ranks { λ r. ⌜ now (list .exit) ≡ listAfter (layoutOf First) (now (s .entry)) (now (list .entry)) ⌝ }
+    requires { ⌜ Accepted (layoutFor (now s)) (now s) ⌝ }
+    ensures is { λ r. ⌜ r ≡ resolvedOf (layoutFor (now (s .entry))) (now (s .entry)) (length (now (list .entry))) ⌝ }
+    ensures ranks { λ r. ⌜ now (list .exit) ≡ listAfter (layoutFor (now (s .entry))) (now (s .entry)) (now (list .entry)) ⌝ }
 {
     let a = first_unit(s);
     let root = a.handed.unit;
@@ -248,8 +249,8 @@ fn resolve_accepted(s: &[u8], list: &mut [u64]) -> Resolved
 // Resolves the entity keys with temporary keys of an E/R group, and writes the ranks of the templates that they mean, in stream order, at the
 // list's front. Numbers 3 to 10, 7, 18, 19, 20 and 12; a refusal leaves the list as it is.
 pub fn resolve(s: &[u8], list: &mut [u64]) -> Resolved
-    ensures is { λ r. ⌜ r ≡ resolvedOf (layoutOf First) (now (s .entry)) (length (now (list .entry))) ⌝ }
-    ensures ranks { λ r. ⌜ now (list .exit) ≡ listAfter (layoutOf First) (now (s .entry)) (now (list .entry)) ⌝ }
+    ensures is { λ r. ⌜ r ≡ resolvedOf (layoutFor (now (s .entry))) (now (s .entry)) (length (now (list .entry))) ⌝ }
+    ensures ranks { λ r. ⌜ now (list .exit) ≡ listAfter (layoutFor (now (s .entry))) (now (s .entry)) (now (list .entry)) ⌝ }
 {
     match check(s) {
         Checked::Refused { number, offset } => refused(number, offset),

@@ -1,8 +1,7 @@
-// The reader that is driven by a table, for streams of the first edition. A place of either reader is one of the other; what may come next is asked of
+// The reader that is driven by a table. A place of either reader is one of the other; what may come next is asked of
 // the table.
 ghost use mathlib.Core.Path.{_≡_};
-ghost use Rattle.cdf_unit_prefix.specs.Layout.{layoutOf};
-ghost use Rattle.cdf_unit_prefix.specs.declared.Edition.the-variants.{First};
+ghost use Rattle.cdf_unit_prefix.specs.Layout.{layoutFor};
 ghost use Rattle.cdf_reader.specs.View.{view, replyOf, noPlace};
 ghost use Rattle.cdf_table_reader_spec.specs.Table.{entries};
 ghost use Rattle.cdf_table_reader_spec.specs.Calls.{tableFirst, tableNext, tableSkip};
@@ -12,7 +11,7 @@ use cdf_reader::Place;
 use cdf_reader::answered;
 use cdf_table_reader_first::first_by;
 use cdf_table_reader_step::next_by;
-use cdf_unit_prefix::Edition;
+use cdf_unit_prefix::edition_of;
 
 mod table;
 
@@ -23,26 +22,28 @@ pub struct TablePlace {
 
 // NEXT and a start, by any table that is lent.
 fn next_in(table: &[u8; 434], p: Place, s: &[u8]) -> Answer
-    ensures is { λ r. ⌜ replyOf r ≡ tableNext (now (table .entry)) (layoutOf First) (now (s .entry)) (view p) ⌝ }
+    ensures is { λ r. ⌜ replyOf r ≡ tableNext (now (table .entry)) (layoutFor (now (s .entry))) (now (s .entry)) (view p) ⌝ }
     ensures kept { λ r. ⌜ ((r .number ≡ 0 → ⊥) → r .place ≡ p) ⌝ }
 {
     let c = p.cursor();
-    let o = next_by(table, c, Edition::First, s);
+    let edition = edition_of(s);
+    let o = next_by(table, c, edition, s);
     answered(o)
 }
 
 fn first_in(table: &[u8; 434], s: &[u8]) -> Answer
-    ensures is { λ r. ⌜ replyOf r ≡ tableFirst (now (table .entry)) (layoutOf First) (now (s .entry)) ⌝ }
+    ensures is { λ r. ⌜ replyOf r ≡ tableFirst (now (table .entry)) (layoutFor (now (s .entry))) (now (s .entry)) ⌝ }
     ensures kept { λ r. ⌜ ((r .number ≡ 0 → ⊥) → r .place ≡ noPlace) ⌝ }
 {
-    let o = first_by(table, Edition::First, s);
+    let edition = edition_of(s);
+    let o = first_by(table, edition, s);
     answered(o)
 }
 
 impl TablePlace {
     // NEXT: closes what ends here, then reads the unit at the position. Numbers 11, 2, 10, 1 and 3 to 9.
     pub fn next(self, s: &[u8]) -> Answer
-        ensures is { λ r. ⌜ replyOf r ≡ tableNext entries (layoutOf First) (now (s .entry)) (view (self .place)) ⌝ }
+        ensures is { λ r. ⌜ replyOf r ≡ tableNext entries (layoutFor (now (s .entry))) (now (s .entry)) (view (self .place)) ⌝ }
         ensures kept { λ r. ⌜ ((r .number ≡ 0 → ⊥) → r .place ≡ self .place) ⌝ }
     {
         let table = TABLE;
@@ -52,7 +53,7 @@ impl TablePlace {
 
     // SKIP: moves past the last unit, whatever it holds. It looks into no row, so it is the first reader's.
     pub fn skip(self, s: &[u8]) -> Answer
-        ensures is { λ r. ⌜ replyOf r ≡ tableSkip (layoutOf First) (now (s .entry)) (view (self .place)) ⌝ }
+        ensures is { λ r. ⌜ replyOf r ≡ tableSkip (layoutFor (now (s .entry))) (now (s .entry)) (view (self .place)) ⌝ }
         ensures kept { λ r. ⌜ ((r .number ≡ 0 → ⊥) → r .place ≡ self .place) ⌝ }
     {
         let p = self.place;
@@ -62,7 +63,7 @@ impl TablePlace {
 
 // FIRST, by row 0 of the table.
 pub fn table_first(s: &[u8]) -> Answer
-    ensures is { λ r. ⌜ replyOf r ≡ tableFirst entries (layoutOf First) (now (s .entry)) ⌝ }
+    ensures is { λ r. ⌜ replyOf r ≡ tableFirst entries (layoutFor (now (s .entry))) (now (s .entry)) ⌝ }
     ensures kept { λ r. ⌜ ((r .number ≡ 0 → ⊥) → r .place ≡ noPlace) ⌝ }
 {
     let table = TABLE;

@@ -6,7 +6,6 @@ ghost use Prim.Native.Nat.{_*_, _≤_};
 ghost use lib.Dec.{eqb};
 ghost use lib.ListN.{length, drop};
 ghost use Rattle.cdf_unit_prefix.specs.Layout.{layoutOf};
-ghost use Rattle.cdf_unit_prefix.specs.declared.Edition.the-variants.{First};
 ghost use Rattle.cdf_reader_spec.specs.Calls.{noPart};
 ghost use Rattle.cdf_reader_cursor.specs.Outcomes.{cursorPlace, outcomeReply, noCursor};
 ghost use Rattle.cdf_reader_replay_spec.specs.Replay.{ranOf, entryOf, logAfter};
@@ -24,6 +23,7 @@ use cdf_table_reader::TABLE;
 use cdf_table_reader_first::first_by;
 use cdf_table_reader_step::next_by;
 use cdf_unit_prefix::Edition;
+use cdf_unit_prefix::edition_of;
 
 // Whether it is the code of a call that the table reader has.
 fn is_shared(code: u8) -> bool
@@ -33,17 +33,17 @@ fn is_shared(code: u8) -> bool
 }
 
 // The call of such a code, by any table that is lent.
-fn turn_by(table: &[u8; 434], c: Cursor, code: u8, s: &[u8]) -> Outcome
-    ensures is { λ r. ⌜ outcomeReply r ≡ tableCall (now (table .entry)) (layoutOf First) (now (s .entry)) (cursorPlace c) (sharedBy code) ⌝ }
+fn turn_by(table: &[u8; 434], c: Cursor, edition: Edition, code: u8, s: &[u8]) -> Outcome
+    ensures is { λ r. ⌜ outcomeReply r ≡ tableCall (now (table .entry)) (layoutOf edition) (now (s .entry)) (cursorPlace c) (sharedBy code) ⌝ }
     ensures kept { λ r. ⌜ ((r .number ≡ 0 → ⊥) → r .cursor ≡ cond (eqb code 1) noCursor c) ⌝ }
 {
     if code == 1 {
-        return first_by(table, Edition::First, s);
+        return first_by(table, edition, s);
     }
     if code == 2 {
-        return next_by(table, c, Edition::First, s);
+        return next_by(table, c, edition, s);
     }
-    call_at(c, Edition::First, Call::Skip, s)
+    call_at(c, edition, Call::Skip, s)
 }
 
 // Writes an entry to the front of what is left of the log.
@@ -72,6 +72,7 @@ fn run_by(table: &[u8; 434], s: &[u8], calls: &[u8], log: &mut [u64]) -> usize
     ensures count { λ r. ⌜ r ≡ length (ranOf (now (s .entry)) (map heard (now (calls .entry)))) ⌝ }
     ensures written { λ r. ⌜ now (log .exit) ≡ logAfter (ranOf (now (s .entry)) (map heard (now (calls .entry)))) (now (log .entry)) ⌝ }
 {
+    let edition = edition_of(s);
     let mut c = no_cursor();
     let mut k = 0;
     let mut at = 0;
@@ -80,7 +81,7 @@ fn run_by(table: &[u8; 434], s: &[u8], calls: &[u8], log: &mut [u64]) -> usize
         if !is_shared(code) {
             return k;
         }
-        let o = turn_by(table, c, code, s);
+        let o = turn_by(table, c, edition, code, s);
         let end = log.len();
         write_entry(&mut log[at..end], o);
         c = o.cursor;

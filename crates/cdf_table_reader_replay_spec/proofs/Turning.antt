@@ -9,8 +9,7 @@ use borrow.Rule.Slice.PartMut.{putMid}
 use lib.Dec.{eqb, leb}
 use lib.ListN.{length, take, drop, getD, length-map}
 use Rattle.cdf_unit_table.proofs.Bools.{both}
-use Rattle.cdf_unit_prefix.specs.Layout.{Layout, layoutOf}
-use Rattle.cdf_unit_prefix.specs.declared.Edition.the-variants.{First}
+use Rattle.cdf_unit_prefix.specs.Layout.{Layout, layoutFor}
 use Rattle.cdf_reader_spec.specs.Calls.{Part, noPart, callOf}
 use Rattle.cdf_reader_spec.specs.declared.Call.the-variants.{Start, Next, Skip, Previous}
 use Rattle.cdf_reader_spec.proofs.Replying.{start-named, next-named, skip-named}
@@ -68,7 +67,7 @@ each P a b c (suc (suc (suc (suc n)))) e =
 -- By the table's list it is the first reader's call, and the loop may go on with its place.
 module _ (table s : List ℕ) (is : table ≡ entries) (p : Cursor) (held : Held s p) where
   abbrev l : Layout
-  l = layoutOf First
+  l = layoutFor s
 
   abbrev Goes : ℕ → Type 0
   Goes code = (r : Outcome) → Turned table l s p code r → (outcomeReply r ≡ callOf l s (cursorPlace p) (callBy code)) × Held s (r .cursor)
@@ -110,7 +109,7 @@ module _ (s codes before : List ℕ) where
 -- One turn of the loop: such a code is one of the first reader's, and its call takes no part.
 pub turned : (s codes log₀ : List ℕ) {log : List ℕ} {c : Cursor} {k at : ℕ} → Running s (map heard codes) log₀ log c k at → k < length codes →
     sharedCode (getD codes k 0) ≡ true → (tail : List ℕ) (o : Outcome) →
-    (outcomeReply o ≡ callOf (layoutOf First) s (cursorPlace c) (callBy (getD codes k 0))) × Held s (o .cursor) →
+    (outcomeReply o ≡ callOf (layoutFor s) s (cursorPlace c) (callBy (getD codes k 0))) × Held s (o .cursor) →
     tail ≡ entryOf (toldOf o noPart) ++ drop 11 (take (length log - at) (drop at log)) →
     Running s (map heard codes) log₀ (putMid at (length log - at) log tail) (o .cursor) (k + 1) (at + 11)
 turned s codes log₀ {log} {c} {k} {at} r less shared tail o w is =

@@ -17,6 +17,14 @@ abbrev pub layoutOf : Edition → Layout
 layoutOf First = record { mark = 0xf1; lengthBytes = 2; limit = 65535 }
 layoutOf Second = record { mark = 0xf2; lengthBytes = 4; limit = 16777215 }
 
+-- Which edition bytes are of: the first, whatever they are. Shut, so that no proof above rests on which edition it is.
+unfoldable pub editionOf : List ℕ → Edition
+editionOf s = First
+
+-- The layout that bytes are read in.
+abbrev pub layoutFor : List ℕ → Layout
+layoutFor s = layoutOf (editionOf s)
+
 -- The prefix: two bytes of mark, the length, one byte of action and one of id.
 abbrev pub prefixOf : Layout → ℕ
 prefixOf l = 4 + l .lengthBytes

@@ -3,7 +3,7 @@ ghost use mathlib.Core.Path.{_≡_};
 ghost use mathlib.Core.List.{[], _∷_};
 ghost use Prim.Native.Nat.{_+_, _*_, _≤_, _<_};
 ghost use lib.ListN.{length};
-ghost use Rattle.cdf_unit_prefix.specs.Layout.{layoutOf, prefixOf, marked, lengthAt, lengthFits};
+ghost use Rattle.cdf_unit_prefix.specs.Layout.{layoutOf, editionOf, prefixOf, marked, lengthAt, lengthFits};
 ghost use Rattle.cdf_unit_prefix.specs.Rules.{headOf};
 use cdf_unit_table::is_known;
 
@@ -11,6 +11,13 @@ use cdf_unit_table::is_known;
 pub enum Edition {
     First,
     Second,
+}
+
+// The edition of a stream, or of any other bytes: each open function that is not told its edition asks here, once.
+pub fn edition_of(s: &[u8]) -> Edition
+    ensures { λ r. ⌜ r ≡ editionOf (now (s .entry)) ⌝ }
+{
+    Edition::First
 }
 
 // Rules 3 to 6: the number of the first that is broken, or what the prefix says.

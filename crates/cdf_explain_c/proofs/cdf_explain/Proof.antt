@@ -1,8 +1,7 @@
 -- The number of what explain answers, and its entries (proofs/Entries). `called` is where it has answered.
 use mathlib.Core.Path.{ap}
 use borrow.Author.Needs.{needs}
-use Rattle.cdf_unit_prefix.specs.Layout.{layoutOf}
-use Rattle.cdf_unit_prefix.specs.declared.Edition.the-variants.{First}
+use Rattle.cdf_unit_prefix.specs.Layout.{layoutFor}
 use Rattle.cdf_explain_spec.specs.Why.{whyOf}
 use Rattle.cdf_explain.specs.Numbers.{explainedBy}
 use Rattle.cdf_explain.specs.declared.Explained.{Explained}
@@ -17,7 +16,8 @@ returns : tie.Need-returns
 unfolding explainedBy
 returns c =
     let called = c .before .before .before .before in
-    let why = whyOf (layoutOf First) (called .before .before .args .s .now) in
+    let s = called .before .before .args .s .now in
+    let why = whyOf (layoutFor s) s in
     let told = called .explain in (
       ap (λ (e : Explained). e .number) (told .ensures),
       written-is why (told .result) (told .ensures) (search needs) (search needs),

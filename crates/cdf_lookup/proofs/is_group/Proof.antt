@@ -1,7 +1,5 @@
 -- By the unit that the start hands out.
 use borrow.Author.Needs.{needs}
-use Rattle.cdf_unit_prefix.specs.Layout.{layoutOf}
-use Rattle.cdf_unit_prefix.specs.declared.Edition.the-variants.{First}
 use Rattle.cdf_reader.specs.View.{replyOf}
 use Rattle.cdf_lookup_search.proofs.Rooted.{group-is}
 use Rattle.cdf_lookup.proofs.is_group.Statement.{statement}
@@ -13,7 +11,7 @@ first-requires c κs = search needs
 returns : tie.Need-returns
 returns c =
     let call = c .before .before in
-    group-is (layoutOf First) (call .before .before .args .s .now) (replyOf (call .first .result)) (call .first .ensures .0)
+    group-is _ (call .before .before .args .s .now) (replyOf (call .first .result)) (call .first .ensures .0)
 
 pub is-group-spec : {M : Type 1} → statement M
 is-group-spec = tie.close (tie.spec first-requires returns)

@@ -6,8 +6,7 @@ use mathlib.Core.List.{List}
 use borrow.Author.Needs.{needs}
 use borrow.Author.Tests.{eqb-true, eqb-false, not-true, not-false}
 use lib.Dec.{eqb}
-use Rattle.cdf_unit_prefix.specs.Layout.{layoutOf}
-use Rattle.cdf_unit_prefix.specs.declared.Edition.the-variants.{First}
+use Rattle.cdf_unit_prefix.specs.Layout.{layoutFor}
 use Rattle.cdf_check.proofs.Exact.{bytes-of}
 use Rattle.cdf_lookup_spec.specs.Find.{Query, query, refusal, orElse, lookupOf}
 use Rattle.cdf_lookup_spec.specs.declared.Lookup.{Lookup}
@@ -32,7 +31,7 @@ abbrev asked : tie.After-walk → Query
 asked one = let a = entry one .args in query (a .template .now) (a .kind) (a .key .now) (a .field .now)
 
 abbrev due : tie.After-walk → Lookup
-due one = lookupOf (layoutOf First) (s one) (t one) (asked one)
+due one = lookupOf (layoutFor (s one)) (layoutFor (t one)) (s one) (t one) (asked one)
 
 abbrev first : tie.After-walk2 → tie.After-walk
 first two = two .before .before .before
@@ -52,7 +51,7 @@ settled : (both : tie.Else3) →
 settled both =
     let two = walked both in
     let one = first two in
-    by-values First (s one) (t one) (asked one) (one .walk .result) (two .walk2 .result) (one .walk .ensures .0) (two .walk2 .ensures .0)
+    by-values (s one) (t one) (asked one) (one .walk .result) (two .walk2 .result) (one .walk .ensures .0) (two .walk2 .ensures .0)
     (two .before .if1 .left) (accepted (two .walk2 .result .number) (both .before .if2 .left))
     (bytes-of (s one) (λ i. known one .before .shared-slice-known .given i .fits))
     (bytes-of (t one) (λ i. known one .shared-slice-known2 .given i .fits))
@@ -68,7 +67,7 @@ returns : tie.Need-returns
 returns c =
     let one = c .before .before .before in
     refuses (s one) (t one) (due one) _ _ _ (c .refused .ensures)
-    (by-first First (s one) (t one) (asked one) (one .walk .result) _ (one .walk .ensures .0) refl (c .before .if1 .taken))
+    (by-first (s one) (t one) (asked one) (one .walk .result) _ (one .walk .ensures .0) refl (c .before .if1 .taken))
 
 walk-requires-2 : tie.Need-walk-requires-2
 walk-requires-2 c κs = search needs
@@ -82,7 +81,7 @@ returns-2 c =
     let one = first two in
     let n = two .walk2 .result .number in
     refuses (s one) (t one) (due one) _ _ _ (c .refused2 .ensures)
-    (by-second First (s one) (t one) (asked one) (one .walk .result) (two .walk2 .result) (one .walk .ensures .0) (two .walk2 .ensures .0)
+    (by-second (s one) (t one) (asked one) (one .walk .result) (two .walk2 .result) (one .walk .ensures .0) (two .walk2 .ensures .0)
     (two .before .if1 .left) (eqb-false n 0 (not-true (eqb n 0) (c .before .if2 .taken))))
 
 refused-requires-3 : tie.Need-refused-requires-3
@@ -94,7 +93,7 @@ returns-3 c =
     let two = past .before .before .before .before in
     let one = first two in
     refuses (s one) (t one) (due one) _ _ _ (c .refused3 .ensures)
-    (by-roots First (s one) (t one) (asked one) (one .walk .result) (two .walk2 .result) (one .walk .ensures .0) (two .walk2 .ensures .0)
+    (by-roots (s one) (t one) (asked one) (one .walk .result) (two .walk2 .result) (one .walk .ensures .0) (two .walk2 .ensures .0)
     (two .before .if1 .left) (accepted (two .walk2 .result .number) (past .if2 .left))
     (not-true (one .walk .result .group && two .walk2 .result .group) (c .before .if3 .taken)))
 

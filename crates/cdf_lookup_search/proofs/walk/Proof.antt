@@ -7,7 +7,6 @@ use borrow.Author.Needs.{needs}
 use borrow.Author.Tests.{not-false}
 use lib.ListN.{length}
 use Rattle.cdf_unit_prefix.specs.Layout.{Layout, layoutOf}
-use Rattle.cdf_unit_prefix.specs.declared.Edition.the-variants.{First}
 use Rattle.cdf_unit_data.specs.Standing.{nameRow}
 use Rattle.cdf_reader_spec.specs.Calls.{nextOf}
 use Rattle.cdf_reader.specs.View.{view, replyOf}
@@ -23,36 +22,37 @@ use Rattle.cdf_lookup_search.proofs.Searched.{nowhere, seek, lies-in, s
 use Rattle.cdf_lookup_search.proofs.walk.Statement.{statement}
 use Rattle.cdf_lookup_search.proofs.walk.Tie as tie
 
-abbrev l : Layout
-l = layoutOf First
-
 abbrev Inv-loop : tie.InvT-loop
-Inv-loop s template kind key field row a₀ group state₀ a state =
-    Going (seek l s (query template kind key field)) l s Seeking (replyOf a) state
+Inv-loop s template kind key field row edition a₀ group state₀ a state =
+    Going (seek (layoutOf edition) s (query template kind key field)) (layoutOf edition) s Seeking (replyOf a) state
     × (a .number ≡ 0 → a .place .position ≤ length s)
     × Placed (length s) (outcomeOf state)
     × (row ≡ nameRow)
 
 abbrev μ-loop : tie.MeasureT-loop
-μ-loop s template kind key field row a₀ group state₀ a state = ahead l s (a .number) (a .place .position)
+μ-loop s template kind key field row edition a₀ group state₀ a state = ahead (layoutOf edition) s (a .number) (a .place .position)
 
 -- Where the start has been made, the bytes and what is asked for, at the head of the loop.
-abbrev begin : tie.At-loop Inv-loop μ-loop → tie.After-first Inv-loop μ-loop
+abbrev begin : tie.At-loop Inv-loop μ-loop → tie.After-first-as Inv-loop μ-loop
 begin turn = turn .before .before .before
 
+-- The layout that the bytes are read in.
+abbrev l : tie.At-loop Inv-loop μ-loop → Layout
+l turn = layoutOf (begin turn .before .edition-of .result)
+
 abbrev bytes : tie.At-loop Inv-loop μ-loop → List ℕ
-bytes turn = begin turn .before .before .before .before .before .args .s .now
+bytes turn = begin turn .before .before .before .before .before .before .args .s .now
 
 abbrev asked : tie.At-loop Inv-loop μ-loop → Query
 asked turn =
-    let a = begin turn .before .before .before .before .before .args in
+    let a = begin turn .before .before .before .before .before .before .args in
     query (a .template .now) (a .kind) (a .key .now) (a .field .now)
 
 -- The unit in hand lies in the bytes, and the loop goes on from it.
 in-hand : (turn : tie.At-loop Inv-loop μ-loop) → turn .loop .a .number ≡ 0 →
-    Turn (seek l (bytes turn) (asked turn)) l (bytes turn) Seeking (replyOf (turn .loop .a)) (turn .loop .state)
+    Turn (seek (l turn) (bytes turn) (asked turn)) (l turn) (bytes turn) Seeking (replyOf (turn .loop .a)) (turn .loop .state)
 in-hand turn z =
-    turned (seek l (bytes turn) (asked turn)) l (bytes turn) Seeking (replyOf (turn .loop .a)) (turn .loop .state) (turn .loop .inv .0) z
+    turned (seek (l turn) (bytes turn) (asked turn)) (l turn) (bytes turn) Seeking (replyOf (turn .loop .a)) (turn .loop .state) (turn .loop .inv .0) z
 
 -- Where it was folded in, or the search is over.
 module _ (step : tie.Joined2 Inv-loop μ-loop) where
@@ -62,31 +62,35 @@ module _ (step : tie.Joined2 Inv-loop μ-loop) where
   abbrev taken : head .loop .a .number ≡ 0
   taken = step .before .before .before .if1 .taken
 
-  folded : step .if2 .state ≡ advanceOf l (bytes head) (asked head) (head .loop .state) (head .loop .a .handed .unit)
+  folded : step .if2 .state ≡ advanceOf (l head) (bytes head) (asked head) (head .loop .state) (head .loop .a .handed .unit)
   folded =
       let over = step .before .is-over in
       ⊎-elim
       (λ t. t .2 ∙ t .1 .ensures)
-      (λ e. e .1 ∙ stays l (bytes head) (asked head) (head .loop .state) (head .loop .a .handed .unit)
+      (λ e. e .1 ∙ stays (l head) (bytes head) (asked head) (head .loop .state) (head .loop .a .handed .unit)
       (sym (over .ensures) ∙ not-false (over .result) (e .0 .left)))
       (step .if2 .came)
 
-  on : Going (seek l (bytes head) (asked head)) l (bytes head) Seeking (nextOf l (bytes head) (view (head .loop .a .place))) (step .if2 .state)
-  on = goes-on l (bytes head) (asked head) (replyOf (head .loop .a)) (head .loop .state) (in-hand head taken) _ folded
+  on : Going (seek (l head) (bytes head) (asked head)) (l head) (bytes head) Seeking (nextOf (l head) (bytes head) (view (head .loop .a .place))) (step .if2 .state)
+  on = goes-on (l head) (bytes head) (asked head) (replyOf (head .loop .a)) (head .loop .state) (in-hand head taken) _ folded
 
   placed : Placed (length (bytes head)) (outcomeOf (step .if2 .state))
-  placed = keeps-place l (bytes head) (asked head) (replyOf (head .loop .a)) (head .loop .state) (in-hand head taken) _ folded (head .loop .inv .2)
+  placed = keeps-place (l head) (bytes head) (asked head) (replyOf (head .loop .a)) (head .loop .state) (in-hand head taken) _ folded (head .loop .inv .2)
 
-first-requires : tie.Need-first-requires Inv-loop μ-loop
-first-requires c κs = search needs
+edition-of-requires : tie.Need-edition-of-requires Inv-loop μ-loop
+edition-of-requires c κs = search needs
+
+first-as-requires : tie.Need-first-as-requires Inv-loop μ-loop
+first-as-requires c κs = search needs
 
 loop-holds : tie.Need-loop-holds Inv-loop μ-loop
 unfolding nameRow
 loop-holds c =
     let start = c .before .before in
-    let s = start .before .before .before .before .before .args .s .now in (
-      begun _ l s Seeking (replyOf (start .first .result)) (start .first .ensures .0),
-      (λ z. (rw (← start .first .ensures .0) at (first-later l s)) z .1),
+    let e = start .before .edition-of .result in
+    let s = start .before .before .before .before .before .before .args .s .now in (
+      begun _ (layoutOf e) s Seeking (replyOf (start .first-as .result)) (start .first-as .ensures .0),
+      (λ z. (rw (← start .first-as .ensures .0) at (first-later (layoutOf e) s)) z .1),
       nowhere (length s),
       refl,
     )
@@ -98,7 +102,7 @@ advance-requires : tie.Need-advance-requires Inv-loop μ-loop
 advance-requires c κs =
     let hand = c .before .before .before in
     let turn = hand .before .before in
-    lies-in l (bytes turn) (asked turn) (replyOf (turn .loop .a)) (turn .loop .state) (in-hand turn (hand .if1 .taken))
+    lies-in (l turn) (bytes turn) (asked turn) (replyOf (turn .loop .a)) (turn .loop .state) (in-hand turn (hand .if1 .taken))
 
 advance-requires-2 : tie.Need-advance-requires-2 Inv-loop μ-loop
 advance-requires-2 c κs = search needs
@@ -106,7 +110,7 @@ advance-requires-2 c κs = search needs
 -- The place fits, so a step from it by 01's row is NEXT.
 next : (c : tie.After-advance2 Inv-loop μ-loop) →
     let turn = head (c .before .before .before) in
-    replyOf (c .advance2 .result) ≡ nextOf l (bytes turn) (view (turn .loop .a .place))
+    replyOf (c .advance2 .result) ≡ nextOf (l turn) (bytes turn) (view (turn .loop .a .place))
 next c =
     let step = c .before .before .before in
     c .advance2 .ensures .0 ∙ proved .advances _ (head step .loop .inv .3) _ _ _ (in-hand (head step) (taken step) .fit)
@@ -115,15 +119,15 @@ loop-less : tie.Need-loop-less Inv-loop μ-loop
 loop-less c =
     let step = c .before .before .before in
     let turn = head step in
-    less l (bytes turn) _ _ (replyOf (c .advance2 .result)) (taken step) (turn .loop .inv .1 (taken step))
-    (rw (← next c) at (next-later l (bytes turn) (view (turn .loop .a .place))))
+    less (l turn) (bytes turn) _ _ (replyOf (c .advance2 .result)) (taken step) (turn .loop .inv .1 (taken step))
+    (rw (← next c) at (next-later (l turn) (bytes turn) (view (turn .loop .a .place))))
 
 loop-again : tie.Need-loop-again Inv-loop μ-loop
 loop-again c =
     let step = c .before .before .before in
     let turn = head step in (
       rw (next c) (on step),
-      (λ z. (rw (← next c) at (next-later l (bytes turn) (view (turn .loop .a .place)))) z .1),
+      (λ z. (rw (← next c) at (next-later (l turn) (bytes turn) (view (turn .loop .a .place)))) z .1),
       placed step,
       turn .loop .inv .3,
     )
@@ -136,8 +140,9 @@ returns c =
     let end = c .before .before in
     let turn = end .before .before .before in
     let is = end .outcome .ensures in
-    let group = group-is l (bytes turn) (replyOf (begin turn .first .result)) (begin turn .first .ensures .0) in (
-      rw is (accepted l (bytes turn) (asked turn) (replyOf (turn .loop .a)) (turn .loop .state) (turn .loop .inv .0) _ group (c .if3 .taken)),
+    let group = group-is (l turn) (bytes turn) (replyOf (begin turn .first-as .result)) (begin turn .first-as .ensures .0) in
+    rw (← begin turn .before .edition-of .ensures) (
+      rw is (accepted (l turn) (bytes turn) (asked turn) (replyOf (turn .loop .a)) (turn .loop .state) (turn .loop .inv .0) _ group (c .if3 .taken)),
       rw is (turn .loop .inv .2),
     )
 
@@ -146,9 +151,10 @@ returns-2 c =
     let end = c .before .before in
     let turn = end .before .before .before in
     let is = end .outcome .ensures in
-    let group = group-is l (bytes turn) (replyOf (begin turn .first .result)) (begin turn .first .ensures .0) in (
+    let group = group-is (l turn) (bytes turn) (replyOf (begin turn .first-as .result)) (begin turn .first-as .ensures .0) in
+    rw (← begin turn .before .edition-of .ensures) (
       rw is
-          (refused l (bytes turn) (asked turn) (replyOf (turn .loop .a)) (turn .loop .state) (turn .loop .inv .0) _ group (end .before .if1 .left)
+          (refused (l turn) (bytes turn) (asked turn) (replyOf (turn .loop .a)) (turn .loop .state) (turn .loop .inv .0) _ group (end .before .if1 .left)
           (c .if3 .left)),
       rw is (turn .loop .inv .2),
     )
@@ -159,7 +165,8 @@ walk-spec =
     (tie.spec
     Inv-loop
     μ-loop
-    first-requires
+    edition-of-requires
+    first-as-requires
     loop-holds
     is-over-requires
     advance-requires

@@ -4,8 +4,7 @@ use mathlib.Core.Path.{_≡_, refl, sym, ap, _∙_}
 use native.Mathlib.Omega.{arith}
 use borrow.Author.Needs.{needs}
 use lib.ListN.{length}
-use Rattle.cdf_unit_prefix.specs.Layout.{layoutOf}
-use Rattle.cdf_unit_prefix.specs.declared.Edition.the-variants.{First}
+use Rattle.cdf_unit_prefix.specs.Layout.{layoutFor}
 use Rattle.cdf_reader_spec.specs.Calls.{Reply, takeOf}
 use Rattle.cdf_reader.specs.View.{view}
 use Rattle.cdf_reader.proofs.Passing.{part-none, part-some, part-within}
@@ -15,7 +14,7 @@ use Rattle.cdf_reader.proofs.get_stream.Tie as tie
 -- The number is that of the call.
 number : (c : tie.After-get-stream-place) →
     let a = c .before .before .args in
-    c .get-stream-place .result .number ≡ takeOf (layoutOf First) (a .s .now) (view (a .p)) .number
+    c .get-stream-place .result .number ≡ takeOf (layoutFor (a .s .now)) (a .s .now) (view (a .p)) .number
 number c = ap (λ (r : Reply). r .number) (c .get-stream-place .ensures .0)
 
 -- Where it is 0, the last unit lies in the bytes.

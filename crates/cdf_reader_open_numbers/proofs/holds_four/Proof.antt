@@ -1,6 +1,7 @@
 -- As of two (proofs/Holding).
 use mathlib.Core.Path.{sym, _∙_}
 use borrow.Author.Tests.{not-true, not-false}
+use Rattle.cdf_unit_prefix.specs.Layout.{layoutOf}
 use Rattle.cdf_reader_numbers.specs.Numbers.{placeFrom}
 use Rattle.cdf_reader_open_numbers.proofs.Holding.{four}
 use borrow.Author.Needs.{needs}
@@ -26,7 +27,7 @@ returns : tie.Need-returns
 returns c =
     let kinds = c .before .is-fourfold in
     let a = c .before .before .before .before .before .before .args in
-    four (a .n) (a .most) (placeFrom (a .p .now)) .0 (sym (kinds .ensures) ∙ not-true (kinds .result) (c .if1 .taken))
+    four (layoutOf (a .edition)) (a .n) (a .most) (placeFrom (a .p .now)) .0 (sym (kinds .ensures) ∙ not-true (kinds .result) (c .if1 .taken))
 
 element-copy-out-is-past : tie.Need-element-copy-out-is-past
 element-copy-out-is-past c = search needs
@@ -100,7 +101,7 @@ returns-2 c =
     let kinds = passed .before .is-fourfold in
     let a = passed .before .before .before .before .before .before .args in
     rw (p3 .is-past3 .ensures, p2 .is-past2 .ensures, p1 .is-past .ensures)
-    (four (a .n) (a .most) (placeFrom (a .p .now)) .1 (sym (kinds .ensures) ∙ not-false (kinds .result) (passed .if1 .left)))
+    (four (layoutOf (a .edition)) (a .n) (a .most) (placeFrom (a .p .now)) .1 (sym (kinds .ensures) ∙ not-false (kinds .result) (passed .if1 .left)))
 
 pub holds-four-spec : {M : Type 1} → statement M
 holds-four-spec =

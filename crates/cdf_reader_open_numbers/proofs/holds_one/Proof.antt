@@ -23,7 +23,7 @@ element-copy-out-result-2 c = search needs
 returns : tie.Need-returns
 returns c =
     let a = c .before .before .before .before .before .args in
-    rw (c .before .is-outermost .ensures) (one (a .n) (a .most) (placeFrom (a .p .now)))
+    λ l. rw (c .before .is-outermost .ensures) (one l (a .n) (a .most) (placeFrom (a .p .now)))
 
 pub holds-one-spec : {M : Type 1} → statement M
 holds-one-spec =

@@ -1,6 +1,7 @@
 -- As of two (proofs/Holding).
 use mathlib.Core.Path.{sym, _∙_}
 use borrow.Author.Tests.{not-true, not-false}
+use Rattle.cdf_unit_prefix.specs.Layout.{layoutOf}
 use Rattle.cdf_reader_numbers.specs.Numbers.{placeFrom}
 use Rattle.cdf_reader_open_numbers.proofs.Holding.{three}
 use borrow.Author.Needs.{needs}
@@ -23,7 +24,7 @@ returns : tie.Need-returns
 returns c =
     let kinds = c .before .is-triple in
     let a = c .before .before .before .before .before .args in
-    three (a .n) (a .most) (placeFrom (a .p .now)) .0 (sym (kinds .ensures) ∙ not-true (kinds .result) (c .if1 .taken))
+    three (layoutOf (a .edition)) (a .n) (a .most) (placeFrom (a .p .now)) .0 (sym (kinds .ensures) ∙ not-true (kinds .result) (c .if1 .taken))
 
 element-copy-out-is-past : tie.Need-element-copy-out-is-past
 element-copy-out-is-past c = search needs
@@ -78,7 +79,7 @@ returns-2 c =
     let kinds = passed .before .is-triple in
     let a = passed .before .before .before .before .before .args in
     rw (p2 .is-past2 .ensures, p1 .is-past .ensures)
-    (three (a .n) (a .most) (placeFrom (a .p .now)) .1 (sym (kinds .ensures) ∙ not-false (kinds .result) (passed .if1 .left)))
+    (three (layoutOf (a .edition)) (a .n) (a .most) (placeFrom (a .p .now)) .1 (sym (kinds .ensures) ∙ not-false (kinds .result) (passed .if1 .left)))
 
 pub holds-three-spec : {M : Type 1} → statement M
 holds-three-spec =

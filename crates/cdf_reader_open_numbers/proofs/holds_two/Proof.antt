@@ -1,6 +1,7 @@
 -- The kinds, then where the units lie, then their ranks (proofs/Holding).
 use mathlib.Core.Path.{sym, _∙_}
 use borrow.Author.Tests.{not-true, not-false}
+use Rattle.cdf_unit_prefix.specs.Layout.{layoutOf}
 use Rattle.cdf_reader_numbers.specs.Numbers.{placeFrom}
 use Rattle.cdf_reader_open_numbers.proofs.Holding.{two}
 use borrow.Author.Needs.{needs}
@@ -20,7 +21,7 @@ returns : tie.Need-returns
 returns c =
     let kinds = c .before .is-pair in
     let a = c .before .before .before .before .args in
-    two (a .n) (a .most) (placeFrom (a .p .now)) .0 (sym (kinds .ensures) ∙ not-true (kinds .result) (c .if1 .taken))
+    two (layoutOf (a .edition)) (a .n) (a .most) (placeFrom (a .p .now)) .0 (sym (kinds .ensures) ∙ not-true (kinds .result) (c .if1 .taken))
 
 element-copy-out-is-past : tie.Need-element-copy-out-is-past
 element-copy-out-is-past c = search needs
@@ -56,7 +57,7 @@ returns-2 c =
     let kinds = passed .before .is-pair in
     let a = passed .before .before .before .before .args in
     rw (p1 .is-past .ensures)
-    (two (a .n) (a .most) (placeFrom (a .p .now)) .1 (sym (kinds .ensures) ∙ not-false (kinds .result) (passed .if1 .left)))
+    (two (layoutOf (a .edition)) (a .n) (a .most) (placeFrom (a .p .now)) .1 (sym (kinds .ensures) ∙ not-false (kinds .result) (passed .if1 .left)))
 
 pub holds-two-spec : {M : Type 1} → statement M
 holds-two-spec =

@@ -13,15 +13,15 @@ use Rattle.cdf_reader_replay.proofs.run.Statement.{statement}
 use Rattle.cdf_reader_replay.proofs.run.Tie as tie
 
 abbrev Inv-loop : tie.InvT-loop
-Inv-loop s calls log₀ row c₀ k₀ at₀ log c k at = Running s calls log₀ log c k at × (row ≡ nameRow)
+Inv-loop s calls log₀ row edition c₀ k₀ at₀ log c k at = Running s calls log₀ log c k at × (row ≡ nameRow)
 
 abbrev μ-loop : tie.MeasureT-loop
-μ-loop s calls log₀ row c₀ k₀ at₀ log c k at = length calls - k
+μ-loop s calls log₀ row edition c₀ k₀ at₀ log c k at = length calls - k
 
 -- The log is as long as it was,
-kept : (turn : tie.At-loop Inv-loop μ-loop) → length (turn .loop .log) ≡ length (turn .before .before .before .before .before .args .log .now)
+kept : (turn : tie.At-loop Inv-loop μ-loop) → length (turn .loop .log) ≡ length (turn .before .before .before .before .before .before .args .log .now)
 kept turn =
-    let start = turn .before .before .before .before .before in
+    let start = turn .before .before .before .before .before .before in
     let a = start .args in
     long (a .s .now) (a .calls .now) (a .log .now) (start .pre) (turn .loop .inv .0)
 
@@ -29,9 +29,12 @@ kept turn =
 room : (going : tie.In-loop Inv-loop μ-loop) → going .before .loop .at + 11 ≤ length (going .before .loop .log)
 room going =
     let turn = going .before in
-    let start = turn .before .before .before .before .before in
+    let start = turn .before .before .before .before .before .before in
     let a = start .args in
     fits-more (a .s .now) (a .calls .now) (a .log .now) (start .pre) (turn .loop .inv .0) (going .loop-test .taken)
+
+edition-of-requires : tie.Need-edition-of-requires Inv-loop μ-loop
+edition-of-requires c κs = search needs
 
 no-cursor-requires : tie.Need-no-cursor-requires Inv-loop μ-loop
 no-cursor-requires c κs = search needs
@@ -39,7 +42,7 @@ no-cursor-requires c κs = search needs
 loop-holds : tie.Need-loop-holds Inv-loop μ-loop
 unfolding nameRow
 loop-holds c =
-    let a = c .before .before .before .before .args in
+    let a = c .before .before .before .before .before .args in
     (rw (c .no-cursor .ensures) (begun (a .s .now) (a .calls .now) (a .log .now)), refl)
 
 shared-slice-read-code : tie.Need-shared-slice-read-code Inv-loop μ-loop
@@ -54,7 +57,7 @@ same-length c = kept (c .before .before .before .before)
 returns : tie.Need-returns Inv-loop μ-loop
 returns c =
     let turn = c .before .before .before .before in
-    let a = turn .before .before .before .before .before .args in
+    let a = turn .before .before .before .before .before .before .args in
     let inv = turn .loop .inv .0 in
     let code = c .before .is-known in
     finished (a .s .now) (a .calls .now) (a .log .now) inv
@@ -65,7 +68,9 @@ call-by-requires : tie.Need-call-by-requires Inv-loop μ-loop
 call-by-requires c κs = search needs
 
 turn-requires : tie.Need-turn-requires Inv-loop μ-loop
-turn-requires c κs = let inv = c .before .before .before .before .before .before .loop .inv in (inv .0 .held, inv .1)
+turn-requires c κs =
+    let turn = c .before .before .before .before .before .before in
+    (turn .loop .inv .0 .held, turn .loop .inv .1, turn .before .before .edition-of .ensures)
 
 part-of-requires : tie.Need-part-of-requires Inv-loop μ-loop
 part-of-requires c κs = search needs
@@ -73,7 +78,7 @@ part-of-requires c κs = search needs
 mul-write-entry : tie.Need-mul-write-entry Inv-loop μ-loop
 mul-write-entry c =
     let going = c .before .before .before .before .before .before .before in
-    let start = going .before .before .before .before .before .before in
+    let start = going .before .before .before .before .before .before .before in
     omega (arith, kept (going .before), room going, start .good .1 .1 .0 .1)
 
 sub-write-entry : tie.Need-sub-write-entry Inv-loop μ-loop
@@ -99,7 +104,8 @@ add-k c =
 add-at : tie.Need-add-at Inv-loop μ-loop
 add-at c =
     let going = c .before .before .before .before .before .before .before .before .before .before .before .before in
-    omega (arith, kept (going .before), room going)
+    let start = going .before .before .before .before .before .before .before in
+    omega (arith, kept (going .before), room going, start .good .1 .1 .0 .1)
 
 loop-less : tie.Need-loop-less Inv-loop μ-loop
 loop-less c =
@@ -115,7 +121,7 @@ loop-again c =
     let code = call .before .before in
     let going = code .before .before in
     let turn = going .before in
-    let a = turn .before .before .before .before .before .args in
+    let a = turn .before .before .before .before .before .before .args in
     let inv = turn .loop .inv in (
       on (a .s .now) (a .calls .now) (a .log .now) (inv .0) (going .loop-test .taken)
           (sym (code .is-known .ensures) ∙ not-false (code .is-known .result) (call .before .if1 .left)) _ (made .turn .result)
@@ -130,7 +136,7 @@ same-length-2 c = kept (c .before)
 returns-2 : tie.Need-returns-2 Inv-loop μ-loop
 returns-2 c =
     let turn = c .before in
-    let a = turn .before .before .before .before .before .args in
+    let a = turn .before .before .before .before .before .before .args in
     let inv = turn .loop .inv .0 in
     finished (a .s .now) (a .calls .now) (a .log .now) inv (ended-all (a .s .now) (a .calls .now) (a .log .now) inv (c .loop-test .left))
 
@@ -140,6 +146,7 @@ run-spec =
     (tie.spec
     Inv-loop
     μ-loop
+    edition-of-requires
     no-cursor-requires
     loop-holds
     shared-slice-read-code

@@ -4,8 +4,7 @@ use mathlib.Core.Bool.{true}
 use borrow.Author.Needs.{needs}
 use borrow.Author.Tests.{not-true, not-false}
 use lib.ListN.{length}
-use Rattle.cdf_unit_prefix.specs.Layout.{layoutOf}
-use Rattle.cdf_unit_prefix.specs.declared.Edition.the-variants.{First}
+use Rattle.cdf_unit_prefix.specs.Layout.{layoutFor}
 use Rattle.cdf_reader_spec.specs.Calls.{isStart}
 use Rattle.cdf_reader_step.proofs.Asking.{Use, ready, useless, fit-needed, counts, starts, steps, skips, takes, again}
 use Rattle.cdf_reader_replay_spec.proofs.Holding.{may-go, goes-on}
@@ -17,7 +16,7 @@ may : (c : tie.Else1) → let a = c .before .before .before .args in Use (a .c) 
 may c = sym (c .before .has-use .ensures) ∙ not-false (c .before .has-use .result) (c .if1 .left)
 
 -- and may go on with the place.
-fit : (c : tie.Else1) → let a = c .before .before .before .args in ready (a .c) (layoutOf First) (a .s .now) (a .call) ≡ true
+fit : (c : tie.Else1) → let a = c .before .before .before .args in ready (a .c) (layoutFor (a .s .now)) (a .s .now) (a .call) ≡ true
 fit c =
     let start = c .before .before .before in
     let a = start .args in
@@ -35,7 +34,7 @@ returns c =
     let start = used .before .before in
     let a = start .args in
     goes-on (a .s .now) (a .c) (start .pre .0) (a .call) (c .refused .result)
-    (useless (a .c) (layoutOf First) (a .s .now) (a .call)
+    (useless (a .c) (layoutFor (a .s .now)) (a .s .now) (a .call)
     (sym (used .has-use .ensures) ∙ not-true (used .has-use .result) (c .before .if1 .taken)) (c .refused .result) (c .refused .ensures))
 
 enum-told : tie.Need-enum-told
@@ -69,8 +68,8 @@ last-depth-requires : tie.Need-last-depth-requires
 last-depth-requires c κs =
     let go = c .before .before .before in
     let a = go .before .before .before .args in
-    counts (a .c) (layoutOf First) (length (a .s .now))
-    (fit-needed (a .c) (layoutOf First) (a .s .now) (a .call) (fit go) (ap isStart (c .before .enum-told5 .given .1)))
+    counts (a .c) (layoutFor (a .s .now)) (length (a .s .now))
+    (fit-needed (a .c) (layoutFor (a .s .now)) (a .s .now) (a .call) (fit go) (ap isStart (c .before .enum-told5 .given .1)))
 
 returns-2 : tie.Need-returns-2
 returns-2 c =
@@ -78,8 +77,8 @@ returns-2 c =
     let start = go .before .before .before in
     let a = start .args in
     goes-on (a .s .now) (a .c) (start .pre .0) (a .call) _
-    (starts (a .c) (layoutOf First) (a .s .now) (a .call) (may go) (fit go) (c .before .enum-told .given .1) (c .first-as .result)
-    (c .first-as .ensures .0) (c .first-as .ensures .1))
+    (starts (a .c) (layoutFor (a .s .now)) (a .s .now) (a .call) (may go) (fit go) (c .before .enum-told .given .1) (c .first-as .result)
+    (rw (start .pre .2) at (c .first-as .ensures .0)) (c .first-as .ensures .1))
 
 returns-3 : tie.Need-returns-3
 returns-3 c =
@@ -87,8 +86,8 @@ returns-3 c =
     let start = go .before .before .before in
     let a = start .args in
     goes-on (a .s .now) (a .c) (start .pre .0) (a .call) _
-    (steps (a .c) (layoutOf First) (a .s .now) (a .call) (may go) (fit go) (c .before .enum-told2 .given .1) (c .advance .result)
-    (rw (start .pre .1) at (c .advance .ensures .0)) (c .advance .ensures .1))
+    (steps (a .c) (layoutFor (a .s .now)) (a .s .now) (a .call) (may go) (fit go) (c .before .enum-told2 .given .1) (c .advance .result)
+    (rw (start .pre .1, start .pre .2) at (c .advance .ensures .0)) (c .advance .ensures .1))
 
 returns-4 : tie.Need-returns-4
 returns-4 c =
@@ -96,7 +95,7 @@ returns-4 c =
     let start = go .before .before .before in
     let a = start .args in
     goes-on (a .s .now) (a .c) (start .pre .0) (a .call) _
-    (skips (a .c) (layoutOf First) (a .s .now) (a .call) (may go) (fit go) (c .before .enum-told3 .given .1) (c .pass .result) (c .pass .ensures))
+    (skips (a .c) (layoutFor (a .s .now)) (a .s .now) (a .call) (may go) (fit go) (c .before .enum-told3 .given .1) (c .pass .result) (c .pass .ensures))
 
 returns-5 : tie.Need-returns-5
 returns-5 c =
@@ -104,7 +103,7 @@ returns-5 c =
     let start = go .before .before .before in
     let a = start .args in
     goes-on (a .s .now) (a .c) (start .pre .0) (a .call) _
-    (takes (a .c) (layoutOf First) (a .s .now) (a .call) (may go) (fit go) (c .before .enum-told4 .given .1) (c .pass2 .result) (c .pass2 .ensures))
+    (takes (a .c) (layoutFor (a .s .now)) (a .s .now) (a .call) (may go) (fit go) (c .before .enum-told4 .given .1) (c .pass2 .result) (c .pass2 .ensures))
 
 returns-6 : tie.Need-returns-6
 returns-6 c =
@@ -112,7 +111,7 @@ returns-6 c =
     let start = go .before .before .before in
     let a = start .args in
     goes-on (a .s .now) (a .c) (start .pre .0) (a .call) _
-    (again (a .c) (layoutOf First) (a .s .now) (a .call) (may go) (fit go) (c .before .before .enum-told5 .given .1) _ (c .last-depth .ensures))
+    (again (a .c) (layoutFor (a .s .now)) (a .s .now) (a .call) (may go) (fit go) (c .before .before .enum-told5 .given .1) _ (c .last-depth .ensures))
 
 pub turn-spec : {M : Type 1} → statement M
 turn-spec =

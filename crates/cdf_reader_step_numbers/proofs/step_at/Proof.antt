@@ -1,6 +1,7 @@
 -- By the turn: a refusal, or the unit is entered (proofs/Leaving).
 use mathlib.Core.Path.{ap, _∙_}
 use borrow.Author.Needs.{needs}
+use Rattle.cdf_unit_prefix.specs.Layout.{layoutOf}
 use Rattle.cdf_reader.specs.Cursors.{cursorOf}
 use Rattle.cdf_reader_step_numbers.proofs.Leaving.{refused, handed}
 use Rattle.cdf_reader_step_numbers.proofs.step_at.Statement.{statement}
@@ -24,7 +25,7 @@ returns c =
     let same = turned .before in
     let read = same .before in
     let a = read .before .before .before .args in
-    refused (a .s .now) (a .place .now) _ (same .cursor .ensures ∙ ap cursorOf (read .place-from .ensures))
+    refused (layoutOf (a .edition)) (a .s .now) (a .place .now) _ (same .cursor .ensures ∙ ap cursorOf (read .place-from .ensures))
     (turned .turn .result) (turned .turn .ensures) (c .before .before .if1 .taken) _ (c .refuse .ensures)
 
 enter-requires : tie.Need-enter-requires
@@ -40,7 +41,7 @@ returns-2 c =
     let same = turned .before in
     let read = same .before in
     let a = read .before .before .before .args in
-    handed (a .s .now) (a .place .now) _ (same .cursor .ensures ∙ ap cursorOf (read .place-from .ensures))
+    handed (layoutOf (a .edition)) (a .s .now) (a .place .now) _ (same .cursor .ensures ∙ ap cursorOf (read .place-from .ensures))
     (turned .turn .result) (turned .turn .ensures) (passed .if1 .left) _ _ (c .before .before .enter .ensures) (c .hand .ensures)
 
 pub step-at-spec : {M : Type 1} → statement M

@@ -12,6 +12,9 @@ stopped-requires c κs = search needs
 returns : tie.Need-returns
 returns c = rw (c .stopped .ensures) (none-open _ _ _ (c .before .if1 .taken))
 
+edition-of-requires : tie.Need-edition-of-requires
+edition-of-requires c κs = search needs
+
 cursor-requires : tie.Need-cursor-requires
 cursor-requires c κs = search needs
 
@@ -26,13 +29,16 @@ returns-2 c =
     let fit = c .before .before in
     let same = fit .before in
     rw (c .stopped2 .ensures)
-    (no-fit _ _ _ (same .before .if1 .left)
-    (rw (same .cursor .ensures) at (sym (fit .is-fit .ensures) ∙ not-true (fit .is-fit .result) (c .before .if2 .taken))))
+    (no-fit _ _ _ (same .before .before .if1 .left)
+    (rw (same .cursor .ensures, same .before .edition-of .ensures) at
+    (sym (fit .is-fit .ensures) ∙ not-true (fit .is-fit .result) (c .before .if2 .taken))))
 
 run-requires : tie.Need-run-requires
 run-requires c κs =
     let fit = c .before .before in
-    rw (fit .before .cursor .ensures) at (sym (fit .is-fit .ensures) ∙ not-false (fit .is-fit .result) (c .before .if2 .left))
+    let same = fit .before in
+    let told = same .before .edition-of .ensures in
+    (told, rw (same .cursor .ensures, told) at (sym (fit .is-fit .ensures) ∙ not-false (fit .is-fit .result) (c .before .if2 .left)))
 
 same-length : tie.Need-same-length
 same-length c = search needs
@@ -46,6 +52,7 @@ fill-spec =
     (tie.spec
     stopped-requires
     returns
+    edition-of-requires
     cursor-requires
     is-fit-requires
     stopped-requires-2

@@ -4,26 +4,31 @@ use mathlib.Core.Path.{_≡_, refl}
 use native.Mathlib.Omega.{arith}
 use borrow.Author.Needs.{needs}
 use lib.ListN.{length}
+use Rattle.cdf_unit_prefix.specs.Layout.{editionOf}
 use Rattle.cdf_unit_data.specs.Standing.{nameRow}
 use Rattle.cdf_reader_units.proofs.Filling.{Running, begun, long, fits-more, full, stops, on}
 use Rattle.cdf_reader_units.proofs.run.Statement.{statement}
 use Rattle.cdf_reader_units.proofs.run.Tie as tie
 
 abbrev Inv-loop : tie.InvT-loop
-Inv-loop s list₀ row room place₀ count₀ at₀ list place count at = Running s place₀ list₀ list place count at × (row ≡ nameRow)
+Inv-loop edition s list₀ row room place₀ count₀ at₀ list place count at = Running s place₀ list₀ list place count at × (row ≡ nameRow)
 
 abbrev μ-loop : tie.MeasureT-loop
-μ-loop s list₀ row room place₀ count₀ at₀ list place count at = room - count
+μ-loop edition s list₀ row room place₀ count₀ at₀ list place count at = room - count
 
 loop-holds : tie.Need-loop-holds Inv-loop μ-loop
 unfolding nameRow
-loop-holds c = let start = c .before .before in (begun (start .args .s .now) (start .args .p) (start .args .list .now) (start .pre), refl)
+loop-holds c = let start = c .before .before in (begun (start .args .s .now) (start .args .p) (start .args .list .now) (start .pre .1), refl)
 
 advance-requires : tie.Need-advance-requires Inv-loop μ-loop
 advance-requires c κs = search needs
 
 stopped-requires : tie.Need-stopped-requires Inv-loop μ-loop
 stopped-requires c κs = search needs
+
+-- The edition is that of the bytes.
+edition : (turn : tie.At-loop Inv-loop μ-loop) → let a = turn .before .before .before .args in a .edition ≡ editionOf (a .s .now)
+edition turn = turn .before .before .before .pre .0
 
 -- The list keeps its length.
 kept : (turn : tie.At-loop Inv-loop μ-loop) → length (turn .loop .list) ≡ length (turn .before .before .before .args .list .now)
@@ -38,7 +43,8 @@ returns c =
     let more = told .before .before in
     let inv = more .before .loop .inv in
     rw (c .stopped .ensures)
-    (stops _ _ _ (inv .0) (more .loop-test .taken) _ (inv .1) (told .advance .result) (told .advance .ensures .0) (c .before .if1 .taken))
+    (stops _ _ _ (inv .0) (more .loop-test .taken) _ (inv .1) (told .advance .result) (rw (edition (more .before)) at (told .advance .ensures .0))
+    (c .before .if1 .taken))
 
 write-unit-requires : tie.Need-write-unit-requires Inv-loop μ-loop
 write-unit-requires c κs =
@@ -67,8 +73,8 @@ loop-again c =
     let told = handing .before .before in
     let more = told .before .before in
     let inv = more .before .loop .inv in (
-      on _ _ _ (inv .0) (more .loop-test .taken) _ (inv .1) (told .advance .result) (told .advance .ensures .0) (handing .if1 .left) _
-          (wrote .write-unit .ensures),
+      on _ _ _ (inv .0) (more .loop-test .taken) _ (inv .1) (told .advance .result) (rw (edition (more .before)) at (told .advance .ensures .0))
+          (handing .if1 .left) _ (wrote .write-unit .ensures),
       inv .1,
     )
 

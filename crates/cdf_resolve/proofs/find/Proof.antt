@@ -3,14 +3,13 @@ use Prim.Native.Nat.{_-_, _≤_}
 use mathlib.Core.Path.{_≡_, sym, _∙_}
 use native.Mathlib.Omega.{arith}
 use borrow.Author.Needs.{needs}
-use Rattle.cdf_unit_prefix.specs.Layout.{layoutOf}
-use Rattle.cdf_unit_prefix.specs.declared.Edition.the-variants.{First}
+use Rattle.cdf_unit_prefix.specs.Layout.{layoutFor}
 use Rattle.cdf_resolve.proofs.Finding.{Unlike, unlike-on}
 use Rattle.cdf_resolve.proofs.find.Statement.{statement}
 use Rattle.cdf_resolve.proofs.find.Tie as tie
 
 abbrev Inv-loop : tie.InvT-loop
-Inv-loop width s starts owns count u i₀ i = (i ≤ count) × Unlike (layoutOf First) s starts owns u i
+Inv-loop width s starts owns count u i₀ i = (i ≤ count) × Unlike (layoutFor s) s starts owns u i
 
 abbrev μ-loop : tie.MeasureT-loop
 μ-loop width s starts owns count u i₀ i = count - i
@@ -49,7 +48,7 @@ loop-again c =
     let turn = c .before .before .before .before .before in
     let a = turn .before .before .before .before .args in (
       omega (arith, c .before .before .before .before .loop-test .taken),
-      unlike-on (layoutOf First) (a .s .now) (a .starts .now) (a .owns .now) (a .u) (turn .loop .i) (turn .loop .inv .1)
+      unlike-on (layoutFor (a .s .now)) (a .s .now) (a .starts .now) (a .owns .now) (a .u) (turn .loop .i) (turn .loop .inv .1)
           (sym (c .before .alike .ensures) ∙ c .if1 .left),
     )
 

@@ -1,14 +1,9 @@
 -- Where the arrays are full, and where they are not.
 use mathlib.Core.Path.{_≡_}
 use borrow.Author.Needs.{needs}
-use Rattle.cdf_unit_prefix.specs.Layout.{Layout, layoutOf}
-use Rattle.cdf_unit_prefix.specs.declared.Edition.the-variants.{First}
 use Rattle.cdf_resolve.proofs.Keeping.{hold-full, hold-new, hold-doubled}
 use Rattle.cdf_resolve.proofs.hold.Statement.{statement}
 use Rattle.cdf_resolve.proofs.hold.Tie as tie
-
-abbrev l : Layout
-l = layoutOf First
 
 -- What was given, where one alike has been looked for; there was room.
 abbrev start : tie.After-find → tie.Start
@@ -20,7 +15,7 @@ room find = find .before .before .before .before .before .before .if1 .left
 returns : tie.Need-returns
 returns c =
     let a = c .before .before .args in
-    λ p k. hold-full l (a .s .now) p (a .t) _ _ _ k (a .owner) (c .if1 .taken)
+    λ p k. hold-full _ (a .s .now) p (a .t) _ _ _ k (a .owner) (c .if1 .taken)
 
 find-requires : tie.Need-find-requires
 find-requires c κs = search needs
@@ -50,7 +45,7 @@ returns-2 : tie.Need-returns-2
 returns-2 c =
     let find = c .before in
     let a = start find .args in
-    λ p k. hold-new l (a .s .now) p (a .t) _ _ _ k (a .owner) (room find) (start find .pre .2) _ (find .find .ensures) (c .if2 .taken)
+    λ p k. hold-new _ (a .s .now) p (a .t) _ _ _ k (a .owner) (room find) (start find .pre .2) _ (find .find .ensures) (c .if2 .taken)
 
 doubled-at-requires : tie.Need-doubled-at-requires
 doubled-at-requires c κs = search needs
@@ -61,7 +56,7 @@ returns-3 c =
     let a = start find .args in
     λ p k.
     rw (c .doubled-at .ensures)
-    (hold-doubled l (a .s .now) p (a .t) _ _ _ k (a .owner) (room find) (start find .pre .2) _ (find .find .ensures) (c .before .if2 .left))
+    (hold-doubled _ (a .s .now) p (a .t) _ _ _ k (a .owner) (room find) (start find .pre .2) _ (find .find .ensures) (c .before .if2 .left))
 
 pub hold-spec : {M : Type 1} → statement M
 hold-spec =

@@ -1,19 +1,14 @@
 -- By the id behind it, and its own.
 use mathlib.Core.Logic.{inl, inr}
 use borrow.Author.Needs.{needs}
-use Rattle.cdf_unit_prefix.specs.Layout.{Layout, layoutOf}
-use Rattle.cdf_unit_prefix.specs.declared.Edition.the-variants.{First}
 use Rattle.cdf_resolve.proofs.Walking.{add-ranks, meet-none, meet-template, meet-key, meet-other}
 use Rattle.cdf_resolve.proofs.meet.Statement.{statement}
 use Rattle.cdf_resolve.proofs.meet.Tie as tie
 
-abbrev l : Layout
-l = layoutOf First
-
 returns : tie.Need-returns
 returns c =
     let a = c .before .before .before .args in
-    λ before p k w. rw (meet-none l (a .s .now) p (a .owner) (a .id) (c .if1 .taken)) (k, w)
+    λ before p k w. rw (meet-none _ (a .s .now) p (a .owner) (a .id) (c .if1 .taken)) (k, w)
 
 hold-requires : tie.Need-hold-requires
 hold-requires c κs =
@@ -26,8 +21,8 @@ returns-2 c =
     let template = c .before .before .before .before in
     let a = template .before .before .before .before .args in
     λ before p k w.
-    rw (meet-template l (a .s .now) p (a .owner) (a .id) (template .before .if1 .left) (template .if2 .taken))
-    (c .hold .ensures p k, rw (add-ranks l (a .s .now) p (a .owner)) w)
+    rw (meet-template _ (a .s .now) p (a .owner) (a .id) (template .before .if1 .left) (template .if2 .taken))
+    (c .hold .ensures p k, rw (add-ranks _ (a .s .now) p (a .owner)) w)
 
 tell-requires : tie.Need-tell-requires
 tell-requires c κs =
@@ -46,14 +41,14 @@ returns-3 c =
     let past = key .before .before in
     let a = past .before .before .before .args in
     λ before p k w.
-    rw (meet-key l (a .s .now) p (a .owner) (a .id) (past .if1 .left) (key .before .if2 .left) (key .if3 .taken)) (tell .tell .ensures before p k w)
+    rw (meet-key _ (a .s .now) p (a .owner) (a .id) (past .if1 .left) (key .before .if2 .left) (key .if3 .taken)) (tell .tell .ensures before p k w)
 
 returns-4 : tie.Need-returns-4
 returns-4 c =
     let past = c .before .before in
     let a = past .before .before .before .args in
     λ before p k w.
-    rw (meet-other l (a .s .now) p (a .owner) (a .id) (past .if1 .left) (c .before .if2 .left) (c .if3 .left)) (k, w)
+    rw (meet-other _ (a .s .now) p (a .owner) (a .id) (past .if1 .left) (c .before .if2 .left) (c .if3 .left)) (k, w)
 
 pub meet-spec : {M : Type 1} → statement M
 meet-spec =

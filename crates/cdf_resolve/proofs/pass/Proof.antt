@@ -6,8 +6,7 @@ use mathlib.Core.List.{List}
 use borrow.Author.Needs.{needs}
 use lib.ListN.{length}
 use lib.Seq.{length-sets}
-use Rattle.cdf_unit_prefix.specs.Layout.{Layout, layoutOf, prefixOf}
-use Rattle.cdf_unit_prefix.specs.declared.Edition.the-variants.{First}
+use Rattle.cdf_unit_prefix.specs.Layout.{Layout, editionOf, layoutFor, prefixOf}
 use Rattle.cdf_unit_data.specs.Standing.{nameRow}
 use Rattle.cdf_unit_list.specs.Units.{listing}
 use Rattle.cdf_grammar.proofs.Proved.{proved as grammar}
@@ -22,37 +21,42 @@ use Rattle.cdf_resolve.proofs.Walking.{Walking, walk-begun, walk-over, 
 use Rattle.cdf_resolve.proofs.pass.Statement.{statement}
 use Rattle.cdf_resolve.proofs.pass.Tie as tie
 
-abbrev l : Layout
-l = layoutOf First
-
 abbrev Inv-loop : tie.InvT-loop
-Inv-loop s list₀ row starts₀ owns₀ ranks₀ a₀ width owner₀ t₀ list starts owns ranks a owner t =
-    (o : Orderly l s) × (group : isGroup (listing l s .units) ≡ true)
-    × Walking l s o group list₀ (replyOf a) owner t starts owns ranks list × (row ≡ nameRow) × (width ≡ prefixOf l)
+Inv-loop s list₀ row starts₀ owns₀ ranks₀ edition a₀ width owner₀ t₀ list starts owns ranks a owner t =
+    (o : Orderly (layoutFor s) s) × (group : isGroup (listing (layoutFor s) s .units) ≡ true)
+    × Walking (layoutFor s) s o group list₀ (replyOf a) owner t starts owns ranks list × (row ≡ nameRow) × (width ≡ prefixOf (layoutFor s))
 
 abbrev μ-loop : tie.MeasureT-loop
-μ-loop s list₀ row starts₀ owns₀ ranks₀ a₀ width owner₀ t₀ list starts owns ranks a owner t = ahead l s (a .number) (a .place .position)
+μ-loop s list₀ row starts₀ owns₀ ranks₀ edition a₀ width owner₀ t₀ list starts owns ranks a owner t = ahead (layoutFor s) s (a .number) (a .place .position)
 
-first-requires : tie.Need-first-requires Inv-loop μ-loop
-first-requires c κs = search needs
+edition-of-requires : tie.Need-edition-of-requires Inv-loop μ-loop
+edition-of-requires c κs = search needs
 
--- The head of the loop, where a unit is in hand, and the bytes.
+first-as-requires : tie.Need-first-as-requires Inv-loop μ-loop
+first-as-requires c κs = search needs
+
+-- The head of the loop, where a unit is in hand, the bytes, and the layout that they are read in.
 abbrev bytes : tie.At-loop Inv-loop μ-loop → List ℕ
-bytes turn = turn .before .before .before .before .before .before .args .s .now
+bytes turn = turn .before .before .before .before .before .before .before .args .s .now
+
+abbrev l : tie.At-loop Inv-loop μ-loop → Layout
+l turn = layoutFor (bytes turn)
 
 abbrev before : tie.At-loop Inv-loop μ-loop → List ℕ
-before turn = turn .before .before .before .before .before .before .args .list .now
+before turn = turn .before .before .before .before .before .before .before .args .list .now
 
 loop-holds : tie.Need-loop-holds Inv-loop μ-loop
 unfolding nameRow
 loop-holds c =
     let first = c .before .before in
-    let start = first .before .before .before in
+    let told = first .before in
+    let start = told .before .before .before in
     let s = start .args .s .now in
-    let tree = grammar .streams First .exactly s (bytes-of s (λ i. first .before .before .shared-slice-known .given i .fits)) .0 (start .pre .0) in
-    let o = orderly First s (tree .0) (tree .1) in
+    let tree = grammar .streams (editionOf s) .exactly s (bytes-of s (λ i. told .before .before .shared-slice-known .given i .fits)) .0 (start .pre .0) in
+    let o = orderly (editionOf s) s (tree .0) (tree .1) in
     let group = start .pre .1 in
-    (o, group, walk-begun l s o group _ _ (first .first .ensures .0), refl, root-width l s o group _ (first .first .ensures .0))
+    let is = rw (told .edition-of .ensures) at (first .first-as .ensures .0) in
+    (o, group, walk-begun _ s o group _ _ is, refl, root-width _ s o group _ is)
 
 meet-requires : tie.Need-meet-requires Inv-loop μ-loop
 meet-requires c κs =
@@ -60,8 +64,8 @@ meet-requires c κs =
     let i = turn .loop .inv in
     let taken = c .before .before .before .before .before .if1 .taken in (
       i .4,
-      walk-ready l (bytes turn) (i .0) (i .1) _ _ _ _ _ _ _ _ (i .2) taken,
-      walk-lies l (bytes turn) (i .0) (i .1) _ _ _ _ _ _ _ _ (i .2) taken,
+      walk-ready (l turn) (bytes turn) (i .0) (i .1) _ _ _ _ _ _ _ _ (i .2) taken,
+      walk-lies (l turn) (bytes turn) (i .0) (i .1) _ _ _ _ _ _ _ _ (i .2) taken,
     )
 
 advance-requires : tie.Need-advance-requires Inv-loop μ-loop
@@ -76,17 +80,17 @@ module _ (c : tie.After-advance Inv-loop μ-loop) where
   taken = c .before .before .before .before .before .before .before .before .before .before .before .if1 .taken
 
   -- The place fits, so a step from it by 01's row is NEXT.
-  next : replyOf (c .advance .result) ≡ nextOf l (bytes head) (view (head .loop .a .place))
+  next : replyOf (c .advance .result) ≡ nextOf (l head) (bytes head) (view (head .loop .a .place))
   next =
-      c .advance .ensures .0
+      (rw (head .before .before .before .before .edition-of .ensures) at (c .advance .ensures .0))
       ∙ proved .advances _ (head .loop .inv .3) _ _ _
-      (walk-fits l (bytes head) (head .loop .inv .0) (head .loop .inv .1) _ _ _ _ _ _ _ _ (head .loop .inv .2) taken)
+      (walk-fits (l head) (bytes head) (head .loop .inv .0) (head .loop .inv .1) _ _ _ _ _ _ _ _ (head .loop .inv .2) taken)
 
 loop-less : tie.Need-loop-less Inv-loop μ-loop
 loop-less c =
     let turn = head c in
-    less l (bytes turn) _ _ (replyOf (c .advance .result)) (taken c) (turn .loop .inv .2 .count (taken c) .1)
-    (rw (← next c) at (next-later l (bytes turn) (view (turn .loop .a .place))))
+    less (l turn) (bytes turn) _ _ (replyOf (c .advance .result)) (taken c) (turn .loop .inv .2 .count (taken c) .1)
+    (rw (← next c) at (next-later (l turn) (bytes turn) (view (turn .loop .a .place))))
 
 loop-again : tie.Need-loop-again Inv-loop μ-loop
 loop-again c =
@@ -95,7 +99,7 @@ loop-again c =
       i .0,
       i .1,
       rw (next c)
-          (walk-on l (bytes turn) (i .0) (i .1) _ _ _ _ _ _ _ _ (i .2) (taken c) _ _ _ _ _ (c .before .before .before .before .before .meet .ensures)),
+          (walk-on (l turn) (bytes turn) (i .0) (i .1) _ _ _ _ _ _ _ _ (i .2) (taken c) _ _ _ _ _ (c .before .before .before .before .before .meet .ensures)),
       i .3,
       i .4,
     )
@@ -107,8 +111,8 @@ returns : tie.Need-returns Inv-loop μ-loop
 returns c =
     let turn = c .before .before in
     let i = turn .loop .inv in
-    walk-over l (bytes turn) (i .0) (i .1) (before turn) _ _ _ _ _ _ _ (i .2) (c .if1 .left)
-    (turn .before .before .before .before .before .before .pre .0)
+    walk-over (l turn) (bytes turn) (i .0) (i .1) (before turn) _ _ _ _ _ _ _ (i .2) (c .if1 .left)
+    (turn .before .before .before .before .before .before .before .pre .0)
 
 pub pass-spec : {M : Type 1} → statement M
 pass-spec =
@@ -116,7 +120,8 @@ pass-spec =
     (tie.spec
     Inv-loop
     μ-loop
-    first-requires
+    edition-of-requires
+    first-as-requires
     loop-holds
     meet-requires
     advance-requires

@@ -1,7 +1,5 @@
 -- The check first.
 use borrow.Author.Needs.{needs}
-use Rattle.cdf_unit_prefix.specs.Layout.{layoutOf}
-use Rattle.cdf_unit_prefix.specs.declared.Edition.the-variants.{First}
 use Rattle.cdf_resolve.proofs.Answering.{accepts, by-check}
 use Rattle.cdf_resolve.proofs.resolve.Statement.{statement}
 use Rattle.cdf_resolve.proofs.resolve.Tie as tie
@@ -23,7 +21,7 @@ resolve-accepted-requires c κs =
     let told = c .before in
     let answer = told .before .before in
     let start = answer .before .before .before in
-    accepts (layoutOf First) (start .args .s .now) (start .args .list .now) _ (answer .check .ensures .0) _ (told .enum-told .given .1)
+    accepts _ (start .args .s .now) (start .args .list .now) _ (answer .check .ensures .0) _ (told .enum-told .given .1)
 
 returns : tie.Need-returns
 returns c =
@@ -31,7 +29,7 @@ returns c =
     let answer = told .before .before in
     let a = answer .before .before .before .args in
     let case = told .number .given in
-    by-check (layoutOf First) (a .s .now) (a .list .now) _ (answer .check .ensures .0) (answer .check .ensures .1 .0) _ _ (case .1) _
+    by-check _ (a .s .now) (a .list .now) _ (answer .check .ensures .0) (answer .check .ensures .1 .0) _ _ (case .1) _
     (c .refused .ensures)
 
 same-length : tie.Need-same-length

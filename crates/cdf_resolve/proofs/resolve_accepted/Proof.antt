@@ -7,8 +7,7 @@ use native.Mathlib.Omega.{arith}
 use borrow.Author.Needs.{needs}
 use borrow.Author.Tests.{eq-eqb, ne-eqb}
 use Rattle.cdf_unit_table.specs.Ids.{erGroup}
-use Rattle.cdf_unit_prefix.specs.Layout.{Layout, layoutOf}
-use Rattle.cdf_unit_prefix.specs.declared.Edition.the-variants.{First}
+use Rattle.cdf_unit_prefix.specs.Layout.{layoutFor}
 use Rattle.cdf_unit_list.specs.Units.{listing}
 use Rattle.cdf_reader.specs.View.{replyOf}
 use Rattle.cdf_lookup_spec.specs.Find.{isGroup}
@@ -17,9 +16,6 @@ use Rattle.cdf_resolve.proofs.Answering.{by-refusal, refused-root, by-f
 use Rattle.cdf_resolve.proofs.resolve_accepted.Statement.{statement}
 use Rattle.cdf_resolve.proofs.resolve_accepted.Tie as tie
 
-abbrev l : Layout
-l = layoutOf First
-
 abbrev bytes : tie.After-first → List ℕ
 bytes first = first .before .before .before .args .s .now
 
@@ -27,8 +23,9 @@ abbrev list : tie.After-first → List ℕ
 list first = first .before .before .before .args .list .now
 
 -- The root that was found is an E/R group.
-group : (first : tie.After-first) → first .first .result .handed .unit .id ≡ erGroup → isGroup (listing l (bytes first) .units) ≡ true
-group first e = sym (group-is l (bytes first) (replyOf (first .first .result)) (first .first .ensures .0)) ∙ eq-eqb _ _ e
+group : (first : tie.After-first) → first .first .result .handed .unit .id ≡ erGroup →
+    isGroup (listing (layoutFor (bytes first)) (bytes first) .units) ≡ true
+group first e = sym (group-is _ (bytes first) (replyOf (first .first .result)) (first .first .ensures .0)) ∙ eq-eqb _ _ e
 
 first-requires : tie.Need-first-requires
 first-requires c κs = search needs
@@ -39,8 +36,8 @@ refused-requires c κs = search needs
 returns : tie.Need-returns
 returns c =
     let first = c .before .before .before .before in
-    let other = sym (group-is l (bytes first) (replyOf (first .first .result)) (first .first .ensures .0)) ∙ ne-eqb _ _ (c .before .if1 .taken) in
-    by-refusal l (bytes first) (list first) 7 0 (refused-root l (bytes first) (list first) (first .before .before .before .pre) other)
+    let other = sym (group-is _ (bytes first) (replyOf (first .first .result)) (first .first .ensures .0)) ∙ ne-eqb _ _ (c .before .if1 .taken) in
+    by-refusal _ (bytes first) (list first) 7 0 (refused-root _ (bytes first) (list first) (first .before .before .before .pre) other)
     (λ z. omega arith) _ (c .refused .ensures)
 
 slice-aggregate-pass : tie.Need-slice-aggregate-pass
@@ -59,7 +56,7 @@ returns-2 c =
     let told = c .before .before in
     let pass = told .before .before in
     let first = pass .before .before .before .before .before in
-    by-first l (bytes first) (list first) (pass .pass .result) (told .told .result) (told .told .ensures) (pass .pass .ensures .answer) (c .if2 .taken)
+    by-first _ (bytes first) (list first) (pass .pass .result) (told .told .result) (told .told .ensures) (pass .pass .ensures .answer) (c .if2 .taken)
 
 pass-requires-2 : tie.Need-pass-requires-2
 pass-requires-2 c κs =
@@ -75,7 +72,7 @@ returns-3 c =
     let told = again .before .before .before .before in
     let pass = told .before .before in
     let first = pass .before .before .before .before .before in
-    by-second l (bytes first) (list first) (pass .pass .result) (told .told .result) (told .told .ensures) (pass .pass .ensures .answer)
+    by-second _ (bytes first) (list first) (pass .pass .result) (told .told .result) (told .told .ensures) (pass .pass .ensures .answer)
     (again .before .before .if2 .left) (again .pass2 .result) _ (again .pass2 .ensures)
 
 pub resolve-accepted-spec : {M : Type 1} → statement M

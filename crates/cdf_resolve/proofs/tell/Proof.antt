@@ -1,13 +1,8 @@
 -- What is found is told.
 use borrow.Author.Needs.{needs}
-use Rattle.cdf_unit_prefix.specs.Layout.{Layout, layoutOf}
-use Rattle.cdf_unit_prefix.specs.declared.Edition.the-variants.{First}
 use Rattle.cdf_resolve.proofs.Keeping.{tell-none, tell-rank}
 use Rattle.cdf_resolve.proofs.tell.Statement.{statement}
 use Rattle.cdf_resolve.proofs.tell.Tie as tie
-
-abbrev l : Layout
-l = layoutOf First
 
 -- What was given, where one alike has been looked for.
 abbrev start : tie.After-find → tie.Start
@@ -25,7 +20,7 @@ returns c =
     let a = start find .args in
     λ before p k w.
     rw (c .lacking-at .ensures)
-    (tell-none l (a .s .now) p (a .t) _ _ _ k (a .owner) before (a .list .now) w _ (find .find .ensures) (c .before .if1 .taken))
+    (tell-none _ (a .s .now) p (a .t) _ _ _ k (a .owner) before (a .list .now) w _ (find .find .ensures) (c .before .if1 .taken))
 
 mul-rank : tie.Need-mul-rank
 mul-rank c = search needs
@@ -49,7 +44,7 @@ returns-2 c =
     let a = start find .args in
     λ before p k w.
     rw (c .before .before .put .ensures)
-    (tell-rank l (a .s .now) p (a .t) _ _ _ k (a .owner) before (a .list .now) w _ (find .find .ensures) (past .if1 .left))
+    (tell-rank _ (a .s .now) p (a .t) _ _ _ k (a .owner) before (a .list .now) w _ (find .find .ensures) (past .if1 .left))
 
 pub tell-spec : {M : Type 1} → statement M
 tell-spec =

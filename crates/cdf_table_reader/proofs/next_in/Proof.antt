@@ -1,7 +1,6 @@
 -- The outcome at the place's cursor (cdf_reader's Answering).
 use borrow.Author.Needs.{needs}
 use Rattle.cdf_unit_prefix.specs.Layout.{layoutOf}
-use Rattle.cdf_unit_prefix.specs.declared.Edition.the-variants.{First}
 use Rattle.cdf_reader_spec.specs.declared.Call.the-variants.{Next}
 use Rattle.cdf_reader.proofs.Answering.{due, keeps}
 use Rattle.cdf_table_reader_spec.specs.Calls.{tableNext}
@@ -10,6 +9,9 @@ use Rattle.cdf_table_reader.proofs.next_in.Tie as tie
 
 cursor-requires : tie.Need-cursor-requires
 cursor-requires c κs = search needs
+
+edition-of-requires : tie.Need-edition-of-requires
+edition-of-requires c κs = search needs
 
 next-by-requires : tie.Need-next-by-requires
 next-by-requires c κs = search needs
@@ -20,10 +22,12 @@ answered-requires c κs = search needs
 returns : tie.Need-returns
 returns c =
     let told = c .before in
-    let at = told .before in (
-      due _ _ (at .cursor .ensures) _ _ (c .answered .ensures) (tableNext _ (layoutOf First) _) (told .next-by .ensures .0),
+    let asked = told .before in
+    let at = asked .before in
+    rw (← asked .edition-of .ensures) (
+      due _ _ (at .cursor .ensures) _ _ (c .answered .ensures) (tableNext _ (layoutOf (asked .edition-of .result)) _) (told .next-by .ensures .0),
       keeps _ _ (at .cursor .ensures) _ _ (c .answered .ensures) Next (told .next-by .ensures .1),
     )
 
 pub next-in-spec : {M : Type 1} → statement M
-next-in-spec = tie.close (tie.spec cursor-requires next-by-requires answered-requires returns)
+next-in-spec = tie.close (tie.spec cursor-requires edition-of-requires next-by-requires answered-requires returns)

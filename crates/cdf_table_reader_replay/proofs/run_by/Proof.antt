@@ -15,15 +15,15 @@ use Rattle.cdf_table_reader_replay.proofs.run_by.Statement.{statement}
 use Rattle.cdf_table_reader_replay.proofs.run_by.Tie as tie
 
 abbrev Inv-loop : tie.InvT-loop
-Inv-loop table s calls log₀ c₀ k₀ at₀ log c k at = Running s (map heard calls) log₀ log c k at
+Inv-loop table s calls log₀ edition c₀ k₀ at₀ log c k at = Running s (map heard calls) log₀ log c k at
 
 abbrev μ-loop : tie.MeasureT-loop
-μ-loop table s calls log₀ c₀ k₀ at₀ log c k at = length calls - k
+μ-loop table s calls log₀ edition c₀ k₀ at₀ log c k at = length calls - k
 
 -- There is room for all codes of the run; the log is as long as it was,
-kept : (turn : tie.At-loop Inv-loop μ-loop) → length (turn .loop .log) ≡ length (turn .before .before .before .before .before .args .log .now)
+kept : (turn : tie.At-loop Inv-loop μ-loop) → length (turn .loop .log) ≡ length (turn .before .before .before .before .before .before .args .log .now)
 kept turn =
-    let start = turn .before .before .before .before .before in
+    let start = turn .before .before .before .before .before .before in
     let a = start .args in
     long (a .s .now) (map heard (a .calls .now)) (a .log .now) (omega (arith, start .pre .1, length-map (a .calls .now) heard)) (turn .loop .inv)
 
@@ -31,15 +31,18 @@ kept turn =
 room : (going : tie.In-loop Inv-loop μ-loop) → going .before .loop .at + 11 ≤ length (going .before .loop .log)
 room going =
     let turn = going .before in
-    let start = turn .before .before .before .before .before in
+    let start = turn .before .before .before .before .before .before in
     omega (arith, kept turn, turn .loop .inv .eleven, start .pre .1, going .loop-test .taken)
+
+edition-of-requires : tie.Need-edition-of-requires Inv-loop μ-loop
+edition-of-requires c κs = search needs
 
 no-cursor-requires : tie.Need-no-cursor-requires Inv-loop μ-loop
 no-cursor-requires c κs = search needs
 
 loop-holds : tie.Need-loop-holds Inv-loop μ-loop
 loop-holds c =
-    let a = c .before .before .before .before .args in
+    let a = c .before .before .before .before .before .args in
     rw (c .no-cursor .ensures) (begun (a .s .now) (map heard (a .calls .now)) (a .log .now))
 
 shared-slice-read-code : tie.Need-shared-slice-read-code Inv-loop μ-loop
@@ -54,7 +57,7 @@ same-length c = kept (c .before .before .before .before)
 returns : tie.Need-returns Inv-loop μ-loop
 returns c =
     let turn = c .before .before .before .before in
-    let a = turn .before .before .before .before .before .args in
+    let a = turn .before .before .before .before .before .before .args in
     let inv = turn .loop .inv in
     let code = c .before .is-shared in
     finished (a .s .now) (map heard (a .calls .now)) (a .log .now) inv
@@ -68,7 +71,7 @@ turn-by-requires c κs = search needs
 mul-write-entry : tie.Need-mul-write-entry Inv-loop μ-loop
 mul-write-entry c =
     let going = c .before .before .before .before in
-    let start = going .before .before .before .before .before .before in
+    let start = going .before .before .before .before .before .before .before in
     omega (arith, kept (going .before), room going, start .good .1 .1 .1 .0 .1)
 
 sub-write-entry : tie.Need-sub-write-entry Inv-loop μ-loop
@@ -87,12 +90,16 @@ write-entry-requires c κs =
     rw (rest (turn .loop .at) (turn .loop .log), length-drop) (omega (arith, room going))
 
 add-k : tie.Need-add-k Inv-loop μ-loop
-add-k c = let going = c .before .before .before .before .before .before .before .before .before in omega (arith, going .loop-test .taken)
+add-k c =
+    let going = c .before .before .before .before .before .before .before .before .before in
+    let start = going .before .before .before .before .before .before .before in
+    omega (arith, going .loop-test .taken, start .good .1 .1 .0 .1)
 
 add-at : tie.Need-add-at Inv-loop μ-loop
 add-at c =
     let going = c .before .before .before .before .before .before .before .before .before in
-    omega (arith, kept (going .before), room going)
+    let start = going .before .before .before .before .before .before .before in
+    omega (arith, kept (going .before), room going, start .good .1 .1 .1 .0 .1)
 
 loop-less : tie.Need-loop-less Inv-loop μ-loop
 loop-less c = let going = c .before .before .before .before .before .before .before .before .before in omega (arith, going .loop-test .taken)
@@ -104,13 +111,13 @@ loop-again c =
     let code = made .before .before in
     let going = code .before .before in
     let turn = going .before in
-    let start = turn .before .before .before .before .before in
+    let start = turn .before .before .before .before .before .before in
     let a = start .args in
     let shared = sym (code .is-shared .ensures) ∙ not-false (code .is-shared .result) (made .before .if1 .left) in
     turned (a .s .now) (a .calls .now) (a .log .now) (turn .loop .inv) (going .loop-test .taken)
     shared _ (made .turn-by .result)
     (goes (a .table .now) (a .s .now) (start .pre .0) (turn .loop .c) (turn .loop .inv .held) (getD (a .calls .now) (turn .loop .k) 0) shared
-    (made .turn-by .result) (made .turn-by .ensures))
+    (made .turn-by .result) (rw (turn .before .before .edition-of .ensures) at (made .turn-by .ensures)))
     (wrote .write-entry .ensures)
 
 same-length-2 : tie.Need-same-length-2 Inv-loop μ-loop
@@ -119,7 +126,7 @@ same-length-2 c = kept (c .before)
 returns-2 : tie.Need-returns-2 Inv-loop μ-loop
 returns-2 c =
     let turn = c .before in
-    let a = turn .before .before .before .before .before .args in
+    let a = turn .before .before .before .before .before .before .args in
     let inv = turn .loop .inv in
     finished (a .s .now) (map heard (a .calls .now)) (a .log .now) inv
     (ended-all (a .s .now) (map heard (a .calls .now)) (a .log .now) inv (omega (arith, c .loop-test .left, length-map (a .calls .now) heard)))
@@ -130,6 +137,7 @@ run-by-spec =
     (tie.spec
     Inv-loop
     μ-loop
+    edition-of-requires
     no-cursor-requires
     loop-holds
     shared-slice-read-code
