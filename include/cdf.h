@@ -6,11 +6,12 @@
  * Build target/libcdf.a with ./library, include this file and link the archive. It is for x86-64 Linux, and needs only memcpy and memset,
  * which every C library has.
  *
- * Every call returns a number: CDF_OK, 0, is done, and the others say what is wrong. A call answers for any bytes and any numbers that it
- * is given; that its answer is the one that the format demands is proved. What C must keep, since no proof reaches the caller:
+ * Every call returns a number, cdf_build_batch in a struct: CDF_OK, 0, is done, and the others say what is wrong. A call answers for any
+ * bytes and any numbers that it is given; that its answer is the one that the format demands is proved. What C must keep, since no proof
+ * reaches the caller:
  *   - a pointer that goes with a length is valid for that many elements; it may be null only if the length is 0;
- *   - place and answer are never null, and have at least the length that is written here; arrays of uint64_t are aligned as the
- *     compiler aligns them;
+ *   - place and answer are never null, and have at least the length that is written here; arrays of uint64_t, and of structs of them, are
+ *     aligned as the compiler aligns them;
  *   - what a call writes (a pointer that is not const) overlaps nothing else that is lent to the same call.
  * No call keeps anything, or touches memory but what it is lent: any number of threads may call at once, as long as none writes what
  * another uses. */

@@ -12,11 +12,13 @@
  * It keeps nothing between calls and allocates nothing: all it knows is in the place, which may be copied, stored and sent, but does not
  * outlive its version (CDF_VERSION).
  *
- * Each function returns a number, and nothing else. 0 is done. Any other number is a refusal, which leaves the place and every byte of
- * the buffer as they were; only a refused cdf_build_first writes a place, one of zeros. The functions answer for any bytes and any
- * numbers: a place that none of them wrote is used if it could belong to the buffer, and else gets 2. No call reads the buffer's bytes.
- * So what is built is a stream if cdf_build_finish answered 0, all calls from cdf_build_first on had the place that the last one left,
- * and the same buffer, and nothing else wrote to it in between.
+ * Units that are known beforehand can be built at one go, all of them or none: cdf_build_batch.
+ *
+ * Each function returns a number, and nothing else; only cdf_build_batch returns more. 0 is done. Any other number is a refusal, which
+ * leaves the place and every byte of the buffer as they were; only a refused cdf_build_first writes a place, one of zeros. The functions
+ * answer for any bytes and any numbers: a place that none of them wrote is used if it could belong to the buffer, and else gets 2. No call
+ * reads the buffer's bytes. So what is built is a stream if cdf_build_finish answered 0, all calls from cdf_build_first on had the place
+ * that the last one left, and the same buffer, and nothing else wrote to it in between.
  *
  * What the caller must keep, and what of threads, is said in cdf.h.
  */
@@ -60,6 +62,48 @@ uint64_t cdf_build_first(uint8_t *buffer, size_t buffer_length, uint64_t root, u
  * The first of these that holds is returned, in this order. id and action are taken whole: 261 is not 5. */
 uint64_t cdf_build_next(uint8_t *buffer, size_t buffer_length, uint64_t place[CDF_BUILD_PLACE_NUMBERS], uint64_t id, uint64_t action,
                         const uint8_t *data, size_t data_length);
+
+/* A request of a list: the id and the action of a unit, and where its own data begins and ends in the text that is lent beside the list, as
+ * cdf_build_next asks for them. The end is the byte after the last. */
+struct cdf_request {
+    uint64_t id;
+    uint64_t action;
+    uint64_t begin;
+    uint64_t end;
+};
+
+/* The ten numbers of a builder's place as a struct, in the order of the array, of which it may be a copy. */
+struct cdf_builder {
+    uint64_t written;        /* CDF_BUILD_PLACE_WRITTEN */
+    uint64_t count;          /* CDF_BUILD_PLACE_COUNT */
+    uint64_t state, start;   /* CDF_BUILD_PLACE_INNERMOST */
+    uint64_t state1, start1; /* CDF_BUILD_PLACE_OUTER: the root, if it is not the innermost; */
+    uint64_t state2, start2; /* and those in it, */
+    uint64_t state3, start3; /* inwards */
+};
+
+/* What a list is told. */
+struct cdf_batched {
+    uint64_t number;          /* as of any call */
+    uint64_t rank;            /* which request of the list is refused, from 0 on */
+    struct cdf_builder place; /* the new place; beside a number other than 0 the very one that was given */
+};
+
+/* The most requests of a list. */
+#define CDF_REQUESTS_MOST 512
+
+/* Builds a list of units, all of them or none. The own data of each is the part of the text that its request names; these may overlap, come
+ * in any order and leave bytes out. An empty list is built too, and changes nothing.
+ *     0   done: buffer and place are as after a cdf_build_next for each request, one after the other; the rank is 0
+ *     2   the place could not belong to a buffer of this length, whatever the list is; the rank is 0
+ *     21  the list has more than 512 requests, whatever these are; the rank is 0
+ *     6, 7, 10, 8, 9, 13, 12  of the first request that is refused, in this order: cdf_build_next gives it this number after those before it;
+ *         the rank is how many these are. Those behind it are not looked at. With 9 the text's bounds may be what is wrong: the end is behind the
+ *         text's, or before the beginning. That is asked of every request, also of a unit that has no own data.
+ * All numbers are known before a byte is written, so beside a number other than 0 no byte of the buffer changes, and the place is the
+ * one that was given. The list and the text are only read. They, like everything that is lent, must not overlap the buffer. */
+struct cdf_batched cdf_build_batch(struct cdf_builder place, uint8_t *buffer, size_t buffer_length, const struct cdf_request *requests, size_t count,
+                                   const uint8_t *text, size_t text_length);
 
 /* Adds a whole group, bytes that the check accepts as a stream with the root 4 or 13, as the next unit. It is closed at once.
  *     0   done: the group's bytes are written, the lengths of all open units are right, and the place is the new one

@@ -20,27 +20,28 @@ uint64_t cdf_version(void);
 
 /* What a call returns. Those of the rules, 3 to 10, come with an offset where a stream is read: where in it the rule is broken, the
  * unit's start, and beside CDF_ERR_DATA the first byte that offends. So do 19 and 20. */
-#define CDF_OK 0                /* done */
-#define CDF_END 1               /* no unit is left to hand out */
-#define CDF_ERR_UNFIT 2         /* the place cannot belong to these bytes, or to a buffer of this length */
-#define CDF_ERR_SHORT 3         /* fewer bytes are left than a prefix has */
-#define CDF_ERR_MARK 4          /* a unit does not begin with the mark CD F1 */
-#define CDF_ERR_LENGTH 5        /* a length is too small, or more than what is left; of the root: not all of it */
-#define CDF_ERR_ID 6            /* the id is not one of 1 to 14 */
-#define CDF_ERR_PLACE 7         /* a unit may not stand here */
-#define CDF_ERR_ACTION 8        /* the action is not allowed for this id */
-#define CDF_ERR_DATA 9          /* the unit's own data are not of the form that its id asks */
-#define CDF_ERR_INCOMPLETE 10   /* a unit ends before it has all that it must have; the offset is its start */
-#define CDF_ERR_NOTHING 11      /* there is nothing to read on from, to skip, to take or to repeat */
-#define CDF_ERR_NO_ROOM 12      /* the log, the list, the text or the buffer is too short */
-#define CDF_ERR_TOO_LONG 13     /* a stream would be longer than 65,535 bytes */
-#define CDF_ERR_BAD_GROUP 14    /* what was to be added is no group that the check accepts */
-#define CDF_ERR_NOT_FOUND 15    /* neither stream has the field that is looked up */
-#define CDF_ERR_NOTHING_KEPT 16 /* nothing in a broken group can be kept */
-#define CDF_ERR_MANY_RUNS 17    /* of a broken group more than 64 runs of bytes would be dropped */
-#define CDF_ERR_MANY_KEYS 18    /* more than 256 templates of a group have temporary keys */
-#define CDF_ERR_DOUBLED 19      /* a template has the name and the temporary key of an earlier one; the offset is its start */
-#define CDF_ERR_UNRESOLVED 20   /* no earlier template has the name and the temporary key of an entity key; the offset is its start */
+#define CDF_OK 0                 /* done */
+#define CDF_END 1                /* no unit is left to hand out */
+#define CDF_ERR_UNFIT 2          /* the place cannot belong to these bytes, or to a buffer of this length */
+#define CDF_ERR_SHORT 3          /* fewer bytes are left than a prefix has */
+#define CDF_ERR_MARK 4           /* a unit does not begin with the mark CD F1 */
+#define CDF_ERR_LENGTH 5         /* a length is too small, or more than what is left; of the root: not all of it */
+#define CDF_ERR_ID 6             /* the id is not one of 1 to 14 */
+#define CDF_ERR_PLACE 7          /* a unit may not stand here */
+#define CDF_ERR_ACTION 8         /* the action is not allowed for this id */
+#define CDF_ERR_DATA 9           /* the unit's own data are not of the form that its id asks */
+#define CDF_ERR_INCOMPLETE 10    /* a unit ends before it has all that it must have; the offset is its start */
+#define CDF_ERR_NOTHING 11       /* there is nothing to read on from, to skip, to take or to repeat */
+#define CDF_ERR_NO_ROOM 12       /* the log, the list, the text or the buffer is too short */
+#define CDF_ERR_TOO_LONG 13      /* a stream would be longer than 65,535 bytes */
+#define CDF_ERR_BAD_GROUP 14     /* what was to be added is no group that the check accepts */
+#define CDF_ERR_NOT_FOUND 15     /* neither stream has the field that is looked up */
+#define CDF_ERR_NOTHING_KEPT 16  /* nothing in a broken group can be kept */
+#define CDF_ERR_MANY_RUNS 17     /* of a broken group more than 64 runs of bytes would be dropped */
+#define CDF_ERR_MANY_KEYS 18     /* more than 256 templates of a group have temporary keys */
+#define CDF_ERR_DOUBLED 19       /* a template has the name and the temporary key of an earlier one; the offset is its start */
+#define CDF_ERR_UNRESOLVED 20    /* no earlier template has the name and the temporary key of an entity key; the offset is its start */
+#define CDF_ERR_MANY_REQUESTS 21 /* a list has more than 512 requests */
 
 /* The ids of units. */
 #define CDF_ID_STREAM 1             /* EDMM stream: a root */

@@ -1,5 +1,6 @@
 //! The functions of the archive, called as C calls them.
 
+use cdf_model::build_list::Listed;
 use cdf_model::lookup::Asked;
 use cdf_model::numbers::{
     AnswerNumbers, BatchNumbers, BuilderNumbers, ExplanationNumbers, FoundNumbers, ReaderNumbers, RescueNumbers,
@@ -71,6 +72,28 @@ extern "C" {
     ) -> u64;
     fn cdf_build_add_stream(buffer: *mut u8, n: usize, place: *mut u64, group: *const u8, ngroup: usize) -> u64;
     fn cdf_build_finish(buffer: *mut u8, n: usize, place: *mut u64, answer: *mut u64) -> u64;
+    fn cdf_build_batch(
+        place: Building,
+        buffer: *mut u8,
+        n: usize,
+        list: *const Listed,
+        count: usize,
+        text: *const u8,
+        ntext: usize,
+    ) -> Batched;
+}
+
+/// A builder's place by value.
+#[repr(C)]
+struct Building(BuilderNumbers);
+
+/// What a list of requests is told.
+#[repr(C)]
+#[derive(Debug)]
+pub struct Batched {
+    pub number: u64,
+    pub rank: u64,
+    pub place: BuilderNumbers,
 }
 
 /// Null where there are no bytes, which C may pass.
@@ -249,4 +272,14 @@ pub fn build_add_stream(buffer: &mut [u8], place: &mut BuilderNumbers, group: &[
 pub fn build_finish(buffer: &mut [u8], place: &mut BuilderNumbers) -> (u64, u64) {
     let n = buffer.len();
     answered(|answer| guarded(place, |place| unsafe { cdf_build_finish(pointer_mut(buffer), n, place, answer) }))
+}
+
+/// The list and the text stay.
+pub fn build_batch(buffer: &mut [u8], place: &BuilderNumbers, list: &[Listed], text: &[u8]) -> Batched {
+    let (n, count, copies) = (buffer.len(), list.len(), (list.to_vec(), text.to_vec()));
+    let buffer = pointer_mut(buffer);
+    let batched =
+        unsafe { cdf_build_batch(Building(*place), buffer, n, pointer(list), count, pointer(text), text.len()) };
+    assert!((list, text) == (&copies.0, &copies.1), "the list or its text was written");
+    batched
 }

@@ -103,7 +103,7 @@ impl Buffers {
 }
 
 /// A request that is right at this place most of the time, else nearly so.
-fn propose(place: &Place, random: &mut Random) -> Request {
+pub fn propose(place: &Place, random: &mut Random) -> Request {
     let joins = |id: &u64| place.open.iter().any(|unit| after(unit.id, unit.had, *id).is_some());
     let admitted: Vec<u64> = (1..=14).filter(joins).collect();
     let takes_keys = place.open.last().is_some_and(|unit| matches!(unit.id, 5 | 11));

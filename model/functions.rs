@@ -23,6 +23,7 @@ pub enum Function {
     BuildNext,
     AddStream,
     Finish,
+    BuildBatch,
     TableFirst,
     TableNext,
     TableSkip,
@@ -43,7 +44,7 @@ impl From<reader::Call> for Function {
 }
 
 /// The numbers that each function can give.
-pub const CAN_GIVE: [(&str, &[usize]); 22] = [
+pub const CAN_GIVE: [(&str, &[usize]); 23] = [
     ("cdf_check", &[0, 3, 4, 5, 6, 7, 8, 9, 10]),
     ("cdf_first", &[0, 3, 4, 5, 6, 7, 8]),
     ("cdf_next", &[0, 1, 2, 3, 4, 5, 6, 7, 8, 9, 10, 11]),
@@ -62,6 +63,7 @@ pub const CAN_GIVE: [(&str, &[usize]); 22] = [
     ("cdf_build_next", &[0, 2, 6, 7, 8, 9, 10, 12, 13]),
     ("cdf_build_add_stream", &[0, 2, 7, 10, 12, 13, 14]),
     ("cdf_build_finish", &[0, 2, 10]),
+    ("cdf_build_batch", &[0, 2, 6, 7, 8, 9, 10, 12, 13, 21]),
     ("cdf_table_first", &[0, 3, 4, 5, 6, 7, 8]),
     ("cdf_table_next", &[0, 1, 2, 3, 4, 5, 6, 7, 8, 9, 10, 11]),
     ("cdf_table_skip", &[0, 2, 11]),
@@ -71,4 +73,4 @@ pub const READER: std::ops::Range<usize> = 1..7;
 /// The reader's calls, the replay and the batches.
 pub const AT_PLACES: std::ops::Range<usize> = 1..9;
 pub const BUILDER: std::ops::Range<usize> = 14..18;
-pub const TABLE: std::ops::Range<usize> = 18..21;
+pub const TABLE: std::ops::Range<usize> = 19..22;

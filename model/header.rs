@@ -3,13 +3,16 @@
 
 use crate::batch::UNIT;
 use crate::build_cases::build_cases;
+use crate::build_list::MOST;
+use crate::build_list_samples::build_lists;
 use crate::build_run::{BuildCase, Step, UNWRITTEN};
 use crate::builder::{add_stream, finish, next, start};
 use crate::cases::{cases, unit};
 use crate::check::{check, listing};
 use crate::explain::explain;
+use crate::header_lists::{build_list, placed, SIZES};
 use crate::header_names::{
-    action, building, call_name, code, hex, id, number, parts, place, state_number, sum, table_name, unit_parts,
+    action, building, call_name, code, hex, id, number, parts, place, sum, table_name, unit_parts,
 };
 use crate::lookup::lookup;
 use crate::lookup_samples::lookups;
@@ -42,13 +45,13 @@ pub struct Lines {
 }
 
 impl Lines {
-    fn given(&mut self, line: &str) {
+    pub fn given(&mut self, line: &str) {
         self.calls += line;
         self.calls.push('\n');
     }
 
     /// The line owed begins with the function's name and the number.
-    fn call(&mut self, line: &str, number: &str, owed: &str) {
+    pub fn call(&mut self, line: &str, number: &str, owed: &str) {
         self.given(line);
         let function = line.split(' ').next().unwrap_or(line);
         self.owed += &format!("{function} {number}{owed}\n");
@@ -85,6 +88,9 @@ pub fn lines() -> Lines {
     for case in build_cases() {
         build(&mut lines, &case);
     }
+    for sample in build_lists() {
+        build_list(&mut lines, &sample);
+    }
     lines
 }
 
@@ -105,8 +111,9 @@ fn constants(lines: &mut Lines) {
         ("UNITS_NUMBERS", count::<BatchNumbers>()),
         ("BUILD_PLACE_NUMBERS", count::<BuilderNumbers>()),
         ("LISTING_ROOM", ROOM),
+        ("REQUESTS_MOST", MOST),
     ];
-    let owed: String = owed.iter().map(|(name, value)| format!(" CDF_{name}={value}")).collect();
+    let owed: String = owed.iter().map(|(name, value)| format!(" CDF_{name}={value}")).collect::<String>() + SIZES;
     lines.call("cdf_version", &VERSION.to_string(), &format!(" CDF_VERSION={VERSION}{owed}"));
 }
 
@@ -269,9 +276,7 @@ fn build(lines: &mut Lines, case: &BuildCase) {
             }
             Step::Place(numbers) => {
                 at = *numbers;
-                let units: String =
-                    at[2..].chunks(2).map(|unit| format!(" {} {}", state_number(unit[0]), unit[1])).collect();
-                lines.given(&format!("building {} {}{units}", at[0], at[1]));
+                lines.given(&placed(&at));
                 continue;
             }
         };

@@ -5,7 +5,7 @@ use crate::numbers;
 use crate::reader::{self, Call, Reply};
 use crate::rules::{Had, Handed, Unit};
 
-const NUMBERS: [&str; 21] = [
+const NUMBERS: [&str; 22] = [
     "CDF_OK",
     "CDF_END",
     "CDF_ERR_UNFIT",
@@ -27,6 +27,7 @@ const NUMBERS: [&str; 21] = [
     "CDF_ERR_MANY_KEYS",
     "CDF_ERR_DOUBLED",
     "CDF_ERR_UNRESOLVED",
+    "CDF_ERR_MANY_REQUESTS",
 ];
 
 pub fn id(id: u64) -> String {

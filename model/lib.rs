@@ -1,9 +1,11 @@
-//! A second implementation of document 01, and of requests a) to d), f) to i) and k) of 02, in plain Rust, written from the
+//! A second implementation of document 01, and of requests a) to d) and f) to k) of 02, in plain Rust, written from the
 //! documents and not from the proved code.
 
 pub mod batch;
 pub mod batch_samples;
 pub mod build_cases;
+pub mod build_list;
+pub mod build_list_samples;
 mod build_places;
 pub mod build_run;
 pub mod builder;
@@ -11,6 +13,7 @@ pub mod cases;
 pub mod check;
 pub mod explain;
 pub mod header;
+mod header_lists;
 mod header_names;
 pub mod lookup;
 pub mod lookup_samples;

@@ -1,11 +1,13 @@
-//! Compares an archive of the library, and the Rust crate over it, with the model on random streams, calls, places, requests, lookups,
-//! rescues and resolvings.
+//! Compares an archive of the library, and the Rust crate over it, with the model on random streams, calls, places, requests, lists of
+//! requests, lookups, rescues and resolvings.
 //!   diff SECONDS SEED   for so long
 //!   diff long SEED      until the figures of `LONG` are reached, with a progress line
 //!   diff places SEED    hand-made places, batches and replays alone, until the figures of `PLACES` are reached
 
 mod archive;
 mod batches;
+mod build_listed;
+mod build_lists;
 mod builders;
 mod consistency;
 mod functions;
@@ -13,6 +15,7 @@ mod keyed;
 mod keys;
 mod looked_up;
 mod lookups;
+mod met;
 mod persons;
 mod places;
 mod pointed;
@@ -23,6 +26,7 @@ mod rescues;
 mod resolved;
 mod resolves;
 mod safe;
+mod safe_lists;
 mod tables;
 mod tally;
 
@@ -127,6 +131,7 @@ fn round(tally: &mut Tally, places_alone: bool) {
     resolves::compare(tally, random);
     safe::compare(tally, &stream);
     tables::compare(tally, &stream);
+    build_lists::compare(tally);
     tally.round += 1;
 }
 
@@ -189,6 +194,7 @@ fn fixed(tally: &mut Tally) {
         safe::compare(tally, bytes);
         tally.count("streams: the stored cases of the check");
     }
+    build_lists::compare_samples(tally);
     builders::largest(tally);
 }
 

@@ -1,9 +1,11 @@
 //! What was compared, how often, and with which numbers; and the end of a run at the first difference.
 
 use crate::batches::BATCHED;
+use crate::build_listed::BUILD_LISTED;
 use crate::functions::{Function, AT_PLACES, BUILDER, CAN_GIVE, READER, TABLE};
 use crate::keys::TOO_MANY;
 use crate::looked_up::LOOKED_UP;
+use crate::met::{count_each, each_met};
 use crate::pointed::{Byte, BYTES};
 use crate::ranked::RANKED;
 use crate::rescued::RESCUED;
@@ -51,7 +53,7 @@ const TEMPORARY: [&str; 4] = [
 pub struct Tally {
     pub seed: u64,
     pub round: u64,
-    met: [[u64; 21]; CAN_GIVE.len()],
+    met: [[u64; 22]; CAN_GIVE.len()],
     kinds: BTreeMap<&'static str, u64>,
     /// How many hand-made places missed one clause alone.
     reader_missed: [u64; reader::CLAUSES.len()],
@@ -66,6 +68,7 @@ pub struct Tally {
     resolved: [u64; RESOLVED.len()],
     ranked: [u64; RANKED.len()],
     batched: [u64; BATCHED.len()],
+    build_listed: [u64; BUILD_LISTED.len()],
     pub looks: Looks,
 }
 
@@ -74,7 +77,7 @@ impl Tally {
         Tally {
             seed,
             round: 0,
-            met: [[0; 21]; CAN_GIVE.len()],
+            met: [[0; 22]; CAN_GIVE.len()],
             kinds: BTreeMap::new(),
             reader_missed: [0; reader::CLAUSES.len()],
             builder_missed: [0; builder::CLAUSES.len()],
@@ -87,6 +90,7 @@ impl Tally {
             resolved: [0; RESOLVED.len()],
             ranked: [0; RANKED.len()],
             batched: [0; BATCHED.len()],
+            build_listed: [0; BUILD_LISTED.len()],
             looks: Looks::default(),
         }
     }
@@ -192,6 +196,11 @@ impl Tally {
         count_each(&BATCHED, &mut self.batched, kinds);
     }
 
+    /// A list of requests that was all these of `BUILD_LISTED`.
+    pub fn build_listed(&mut self, kinds: &[&str]) {
+        count_each(&BUILD_LISTED, &mut self.build_listed, kinds);
+    }
+
     fn calls(&self, of: std::ops::Range<usize>) -> u64 {
         self.met[of].iter().flatten().sum()
     }
@@ -217,7 +226,7 @@ impl Tally {
 
     /// Prints the figures. False if a number was not met that the function can give, or met that it cannot, or if a clause
     /// was never missed alone, a kind of refusal not explained, a kind of byte not named, a kind of key not refused, a kind
-    /// of lookup, of rescue, of resolving or of batch not made, a kind of rank not told, or an entry of the table not asked. Of a run on
+    /// of lookup, of rescue, of resolving, of list or of batch not made, a kind of rank not told, or an entry of the table not asked. Of a run on
     /// hand-made places alone the functions that it calls are asked, and the kinds of places, ranks and batches.
     pub fn report(&self, places_alone: bool) -> bool {
         let mut good = true;
@@ -270,31 +279,7 @@ impl Tally {
         good &= each_met("lookups", &LOOKED_UP, &self.looked_up, &[]);
         good &= each_met("rescues", &RESCUED, &self.rescued, &[]);
         good &= each_met("resolvings", &RESOLVED, &self.resolved, &[]);
+        good &= each_met("lists of requests", &BUILD_LISTED, &self.build_listed, &[]);
         good & self.looks.report()
     }
-}
-
-/// Counts these of the labels.
-fn count_each(labels: &[&str], met: &mut [u64], these: &[&str]) {
-    for this in these {
-        let which = labels.iter().position(|label| label == this);
-        met[which.expect(this)] += 1;
-    }
-}
-
-/// Prints how often each of these was met. False if one was not, unless it is not asked for.
-fn each_met(of: &str, labels: &[&str], met: &[u64], not_asked: &[usize]) -> bool {
-    let mut good = true;
-    println!("{of}:");
-    for (index, (label, met)) in labels.iter().zip(met).enumerate() {
-        if not_asked.contains(&index) {
-            continue;
-        }
-        println!("{met:>12} {label}");
-        if *met == 0 {
-            println!("FAILED: not met");
-            good = false;
-        }
-    }
-    good
 }

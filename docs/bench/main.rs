@@ -8,6 +8,7 @@ mod compare;
 mod compare_lookup;
 mod compare_places;
 mod compare_reader;
+mod compare_requests;
 mod compare_rescue;
 mod compare_resolve;
 mod hand_made;
@@ -16,11 +17,13 @@ mod night;
 mod place;
 mod plain;
 mod plain_lookup;
+mod plain_requests;
 mod plain_rescue;
 mod plain_resolve;
 mod plain_write;
 mod random;
 mod readers;
+mod requests;
 mod resolve;
 mod rounds;
 mod rules;
@@ -42,6 +45,7 @@ fn main() {
     compare_lookup::assert_equal(&sets);
     compare_rescue::assert_equal(&sets);
     compare_resolve::assert_equal(&sets);
+    compare_requests::assert_equal();
     if named.iter().any(|name| name == "answers") {
         return;
     }
@@ -60,5 +64,8 @@ fn main() {
     }
     if asked("resolve") {
         resolve::tables(rounds::wanted());
+    }
+    if asked("requests") {
+        requests::tables(rounds::wanted());
     }
 }

@@ -77,6 +77,10 @@ impl<'a> Builder<'a> {
         self.next(id, action, data)
     }
 
+    pub fn written(&self) -> usize {
+        self.written
+    }
+
     pub fn finish(&self) -> Result<usize, u8> {
         if self.open.iter().all(|open| open.progress.complete()) {
             Ok(self.written)

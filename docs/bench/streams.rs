@@ -48,13 +48,13 @@ fn many(random: &mut Random, size: usize, one: impl Fn(&mut Random) -> Vec<u8>) 
 }
 
 /// One template with one key and small fields.
-fn fields(random: &mut Random, size: usize) -> Vec<u8> {
+pub fn fields(random: &mut Random, size: usize) -> Vec<u8> {
     let nested = [key(random), many(random, size, field)].concat();
     unit(4, 0, &[], &unit(5, 1, b"\x06PERSON", &nested))
 }
 
 /// Templates with a key and three fields each.
-fn templates(random: &mut Random, size: usize) -> Vec<u8> {
+pub fn templates(random: &mut Random, size: usize) -> Vec<u8> {
     let nested = many(random, size, |random| {
         let action = random.pick(&[1, 2, 3, 4]);
         let nested = [key(random), field(random), field(random), field(random)].concat();
@@ -64,7 +64,7 @@ fn templates(random: &mut Random, size: usize) -> Vec<u8> {
 }
 
 /// Relations between two entity keys with one key each, in a group behind a call: nested five deep.
-fn relations(random: &mut Random, size: usize) -> Vec<u8> {
+pub fn relations(random: &mut Random, size: usize) -> Vec<u8> {
     fn entity_key(random: &mut Random) -> Vec<u8> {
         unit(11, 0, &name(random), &key(random))
     }
@@ -78,7 +78,7 @@ fn relations(random: &mut Random, size: usize) -> Vec<u8> {
 }
 
 /// A file of short lines.
-fn lines(random: &mut Random, size: usize) -> Vec<u8> {
+pub fn lines(random: &mut Random, size: usize) -> Vec<u8> {
     let nested = many(random, size, |random| {
         let length = random.between(4, 23);
         unit(14, 0, &random.bytes(length), &[])

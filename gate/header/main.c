@@ -1,94 +1,6 @@
 /* Calls every function of include/ as the lines of standard input say (model/header.rs writes them), and writes a line for each: what it
  * returned and all that it wrote, in the names of the headers' constants. run compares that with what the model says. */
-#include "cdf.h"
-#include "constants.h"
-#include "lent.h"
-
-GUARDED(place, CDF_PLACE_NUMBERS);
-GUARDED(answer, CDF_ANSWER_NUMBERS);
-GUARDED(one, 1);
-GUARDED(batch, CDF_UNITS_NUMBERS);
-GUARDED(explanation, CDF_EXPLAIN_NUMBERS);
-GUARDED(found, CDF_LOOKUP_NUMBERS);
-GUARDED(rescued, CDF_RESCUE_NUMBERS);
-GUARDED(resolved, CDF_RESOLVE_NUMBERS);
-GUARDED(building, CDF_BUILD_PLACE_NUMBERS);
-
-static bytes stream, buffer;
-static int done;
-
-static void returned(const char *function, uint64_t is) {
-    if (!(KEPT(place) && KEPT(answer) && KEPT(one) && KEPT(batch) && KEPT(explanation) && KEPT(found) && KEPT(rescued) && KEPT(resolved) &&
-          KEPT(building)))
-        stop("written outside an array:", function);
-    printf("%s ", function);
-    tell(NUMBERS, is);
-    done = is == CDF_OK;
-}
-
-static void tell_answer(void) {
-    TELL(answer.is, CDF_ANSWER_OFFSET);
-    TELL_AS(IDS, answer.is, CDF_ANSWER_ID);
-    TELL_AS(ACTIONS, answer.is, CDF_ANSWER_ACTION);
-    TELL(answer.is, CDF_ANSWER_START);
-    TELL(answer.is, CDF_ANSWER_OWN_END);
-    TELL(answer.is, CDF_ANSWER_END);
-    TELL(answer.is, CDF_ANSWER_PART_START);
-    TELL(answer.is, CDF_ANSWER_PART_LENGTH);
-    TELL(answer.is, CDF_ANSWER_DEPTH);
-    TELL(answer.is, CDF_ANSWER_RANK);
-}
-
-/* A place is told as one of zeros, after a refusal as one that stays, and else by its numbers as far as its count reaches. */
-static int tell_same(const uint64_t *now, const uint64_t *before, size_t count) {
-    size_t zeros = 0;
-    while (zeros < count && !now[zeros]) zeros++;
-    if (zeros == count) return puts(" zeros"), 1;
-    if (done) return 0;
-    return puts(memcmp(now, before, count * sizeof *now) ? " changed" : " stays"), 1;
-}
-
-static void tell_place(const uint64_t *before) {
-    const uint64_t *p = place.is;
-    size_t at;
-    if (tell_same(p, before, CDF_PLACE_NUMBERS)) return;
-    TELL(p, CDF_PLACE_POSITION);
-    TELL(p, CDF_PLACE_COUNT);
-    TELL_AS(STATES, p, CDF_PLACE_INNERMOST);
-    tell_numbers(p + CDF_PLACE_INNERMOST + 1, 2);
-    at = FROM(CDF_PLACE_OUTER);
-    for (uint64_t i = 1; i < p[CDF_PLACE_COUNT]; i++, at += 3) {
-        tell(STATES, p[at]);
-        tell_numbers(p + at + 1, 2);
-    }
-    at = FROM(CDF_PLACE_LAST);
-    tell(IDS, p[at]);
-    putchar(',');
-    tell(ACTIONS, p[at + 1]);
-    tell_numbers(p + at + 2, 3);
-    printf(" %s", p[CDF_PLACE_FLAG] ? "CDF_PLACE_FLAG" : "-");
-    at = FROM(CDF_PLACE_RANKS);
-    tell_numbers(p + at, p[CDF_PLACE_COUNT]);
-    TELL(p, CDF_PLACE_LAST_RANK);
-    putchar('\n');
-}
-
-static void tell_building(const uint64_t *before) {
-    const uint64_t *p = building.is;
-    size_t at;
-    tell_sum(buffer.is, buffer.length);
-    if (tell_same(p, before, CDF_BUILD_PLACE_NUMBERS)) return;
-    TELL(p, CDF_BUILD_PLACE_WRITTEN);
-    TELL(p, CDF_BUILD_PLACE_COUNT);
-    TELL_AS(STATES, p, CDF_BUILD_PLACE_INNERMOST);
-    tell_numbers(p + CDF_BUILD_PLACE_INNERMOST + 1, 1);
-    at = FROM(CDF_BUILD_PLACE_OUTER);
-    for (uint64_t i = 1; i < p[CDF_BUILD_PLACE_COUNT]; i++, at += 2) {
-        tell(STATES, p[at]);
-        tell_numbers(p + at + 1, 1);
-    }
-    putchar('\n');
-}
+#include "told.h"
 
 static void explain(void) {
     const uint64_t *e = explanation.is;
@@ -250,6 +162,35 @@ static void build_add_stream(void) {
     free(group.is);
 }
 
+/* A list of so many requests, and its text. The place goes from the array into the struct and back, each number by its name. */
+static void build_batch(void) {
+    uint64_t *p = building.is, *in = p + CDF_BUILD_PLACE_INNERMOST, *out = p + CDF_BUILD_PLACE_OUTER;
+    size_t count = value(LENGTHS, word());
+    struct cdf_request *requests = count ? (struct cdf_request *)malloc(count * sizeof *requests) : NULL;
+    struct cdf_builder at;
+    struct cdf_batched told;
+    bytes text;
+    if (count && !requests) stop("no", "memory");
+    for (size_t i = 0; i < count; i++) {
+        requests[i].id = value(IDS, word());
+        requests[i].action = value(ACTIONS, word());
+        requests[i].begin = value(LENGTHS, word());
+        requests[i].end = value(LENGTHS, word());
+    }
+    text = in_hex();
+    at.written = p[CDF_BUILD_PLACE_WRITTEN], at.count = p[CDF_BUILD_PLACE_COUNT];
+    at.state = in[0], at.start = in[1], at.state1 = out[0], at.start1 = out[1];
+    at.state2 = out[2], at.start2 = out[3], at.state3 = out[4], at.start3 = out[5];
+    told = cdf_build_batch(at, buffer.is, buffer.length, requests, count, text.is, text.length);
+    at = told.place;
+    p[CDF_BUILD_PLACE_WRITTEN] = at.written, p[CDF_BUILD_PLACE_COUNT] = at.count;
+    in[0] = at.state, in[1] = at.start, out[0] = at.state1, out[1] = at.start1;
+    out[2] = at.state2, out[3] = at.start2, out[4] = at.state3, out[5] = at.start3;
+    returned("cdf_build_batch", told.number);
+    printf(" rank=%llu", (number)told.rank);
+    free(requests), free(text.is);
+}
+
 #define IS_CALL(name) !strcmp(call, #name)
 /* A call of the reader; true if this is it. */
 #define READS(name) (IS_CALL(name) && (returned(#name, name(stream.is, stream.length, place.is, answer.is)), 1))
@@ -272,6 +213,7 @@ static void run(const char *call) {
     } else if (IS_CALL(cdf_version)) {
         printf("cdf_version %llu", (number)cdf_version());
         for (const constant *of = LENGTHS; of->name; of++) printf(" %s=%llu", of->name, (number)of->value);
+        for (const constant *of = SIZES; of->name; of++) printf(" %s=%llu", of->name, (number)of->value);
         putchar('\n');
     } else if (IS_CALL(cdf_check)) {
         returned(call, cdf_check(stream.is, stream.length, one.is));
@@ -303,6 +245,9 @@ static void run(const char *call) {
         tell_building(building_before);
     } else if (IS_CALL(cdf_build_add_stream)) {
         build_add_stream();
+        tell_building(building_before);
+    } else if (IS_CALL(cdf_build_batch)) {
+        build_batch();
         tell_building(building_before);
     } else if (IS_CALL(cdf_build_finish)) {
         returned(call, cdf_build_finish(buffer.is, buffer.length, building.is, one.is));

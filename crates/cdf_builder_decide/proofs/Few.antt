@@ -19,7 +19,7 @@ use Rattle.cdf_builder_spec.specs.declared.Parts.{Parts}
 use Rattle.cdf_builder_decide.specs.declared.Decided.{Decided}
 use Rattle.cdf_builder_decide.proofs.Stages.{decided, decided-done, Grows}
 
-few : (l : Layout) (n : ℕ) (p : BuilderPlace) (r : Request) → callNumber l n p r ≡ 0 → length (grown l p r .units) ≤ 4
+pub few : (l : Layout) (n : ℕ) (p : BuilderPlace) (r : Request) → callNumber l n p r ≡ 0 → length (grown l p r .units) ≤ 4
 few l n p r e = proved .four l n (grown l p r) (next-fits l n p r e)
 
 -- As many units as the count says.

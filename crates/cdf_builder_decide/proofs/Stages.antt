@@ -33,7 +33,7 @@ use Rattle.cdf_builder_spec.specs.declared.Parts.{Parts}
 use Rattle.cdf_builder_decide.specs.declared.Decided.{Decided}
 
 -- A number that is not 0, or what is asked next.
-abbrev orElse : ℕ → ℕ → ℕ
+abbrev pub orElse : ℕ → ℕ → ℕ
 orElse k next = cond (eqb k 0) next k
 
 -- Two tests with numbers that are not 0.
@@ -76,7 +76,7 @@ module _ (l : Layout) (n : ℕ) (p : BuilderPlace) (u : Item) (f : fits l n p �
   Room = room l n (p .written + length (bytesFor l (unit u)))
 
   module _ (k : known (u .id) ≡ true) where
-    by-faults : Number ≡ orElse (joinNumber (p .units) (u .id) 0) (orElse (ownFault (u .id) (u .action) (u .text)) Room)
+    pub by-faults : Number ≡ orElse (joinNumber (p .units) (u .id) 0) (orElse (ownFault (u .id) (u .action) (u .text)) Room)
     unfolding refused ownFault
     by-faults =
         call-fitting l n p (unit u) f ∙ rw k (joined-next (p .units) (u .id) _)
@@ -147,27 +147,35 @@ module _ (l : Layout) (n : ℕ) (p : Parts) (count : ℕ) (top : Begun) where
       growing l n p count top size first ≡ decideOf l n (placed p) r
   grows r size first g = sym (decided l n (placed p) r _ (g .number) ∙ rw (g .place))
 
-  module _ (f : fits l n (placed p) ≡ true) (id : ℕ) (j : joinNumber (placed p .units) id 0 ≡ 0)
-      (left : units count top (p .o1) (p .o2) (p .o3) ≡ advanced id (joining id (placed p .units))) where
+  module _ (id : ℕ) (left : units count top (p .o1) (p .o2) (p .o3) ≡ advanced id (joining id (placed p .units))) where
     -- An id that is joined leaves a unit open.
-    left-some : 1 ≤ count
+    pub left-some : joinNumber (placed p .units) id 0 ≡ 0 → 1 ≤ count
     unfolding advanced
-    left-some =
+    left-some j =
         let w = joined-is (placed p .units) id 0 j .0 in
         omega (arith, ap length (left ∙ ap (advanced id) (w .joins)), length-held noBegun count top (p .o1) (p .o2) (p .o3))
 
+    -- The place with a unit more.
+    pub unit-place : (action : ℕ) (text : List ℕ) (size : ℕ) → size ≡ prefixOf l + length text → (first : ℕ) → first ≡ nothing id →
+        grown l (placed p) (unit (record { id = id; action = action; text = text })) ≡ grownBy p count top size first
+    unfolding grown idOf entering opens
+    unit-place action text size e first is =
+        let s = e ∙ sym (unit-size l (record { id = id; action = action; text = text })) in
+        rw (← s, ← left, ← is, entered-as (eqb first 0) (record { state = first; start = p .written } ∷ []))
+
+  module _ (f : fits l n (placed p) ≡ true) (id : ℕ) (j : joinNumber (placed p .units) id 0 ≡ 0)
+      (left : units count top (p .o1) (p .o2) (p .o3) ≡ advanced id (joining id (placed p .units))) where
     pub unit-grows : (action : ℕ) (text : List ℕ) → known id ≡ true → ownFault id action text ≡ 0 →
         (size : ℕ) → p .written + size < 18446744073709551616 → size ≡ prefixOf l + length text → (first : ℕ) → first ≡ nothing id →
         Grows l n p (unit (record { id = id; action = action; text = text })) count top size first
-    unfolding grown idOf entering opens
     unit-grows action text k o size sum e first is =
         let u : Item = record { id = id; action = action; text = text } in
         let s = e ∙ sym (unit-size l u) in
         record {
           sum = sum;
           number = right l n (placed p) u f k j o ∙ rw (← s);
-          place = rw (← s, ← left, ← is, entered-as (eqb first 0) (record { state = first; start = p .written } ∷ []));
-          some = left-some;
+          place = unit-place id left action text size e first is;
+          some = left-some id left j;
         }
 
     pub group-grows : (g : List ℕ) → id ≡ groupId l g → (id ≡ 0 → ⊥) → p .written + length g < 18446744073709551616 →
@@ -179,7 +187,7 @@ module _ (l : Layout) (n : ℕ) (p : Parts) (count : ℕ) (top : Begun) where
           sum = sum;
           number = group-joined l n (placed p) g f id is some j;
           place = rw (← w .1, ← is, ← left);
-          some = left-some;
+          some = left-some id left j;
         }
 
 -- A place that fits has written few bytes, so that a size may be added.

@@ -5,14 +5,14 @@ ghost use Rattle.cdf_unit_prefix.specs.Layout.{layoutOf};
 ghost use Rattle.cdf_builder_spec.specs.Requests.{unit, group, joining, joinNumber, advanced};
 ghost use Rattle.cdf_builder_spec.specs.Calls.{decideOf};
 ghost use Rattle.cdf_builder_spec.specs.Slots.{units, placed};
-ghost use Rattle.cdf_builder_decide.specs.Grown.{decisionOf, grownBy, Growable, growing};
+ghost use Rattle.cdf_builder_decide.specs.Grown.{decisionOf, Growable, growing};
+use cdf_builder_enter::enter;
 use cdf_builder_faults::group_id;
 use cdf_builder_faults::own_fault;
 use cdf_builder_faults::room;
 use cdf_builder_fit::is_fit;
 use cdf_builder_join::Joined;
 use cdf_builder_join::join;
-use cdf_builder_spec::Begun;
 use cdf_builder_spec::Parts;
 use cdf_unit_prefix::Edition;
 use cdf_unit_prefix::prefix;
@@ -37,72 +37,18 @@ fn join_place(p: Parts, id: usize) -> Joined
     join(id, p.count, top, o1, o2, o3)
 }
 
-// The place with so many bytes more: of the units left open, and the new one in its first state, if that is not 0.
-fn enter(p: Parts, left: Joined, size: usize, first: usize) -> Parts
-    requires { ⌜ (p .written + size < 18446744073709551616) × ((first ≡ 0 → ⊥) → (1 ≤ left .count) × (left .count ≤ 3)) ⌝ }
-    ensures { λ r. ⌜ placed r ≡ grownBy p (left .count) (left .top) size first ⌝ }
-{
-    let written = p.written + size;
-    let count = left.count;
-    let outer = left.top;
-    let o1 = p.o1;
-    let o2 = p.o2;
-    let o3 = p.o3;
-    if first == 0 {
-        return Parts {
-            written,
-            count,
-            top: outer,
-            o1,
-            o2,
-            o3,
-        };
-    }
-    let inner = Begun {
-        state: first,
-        start: p.written,
-    };
-    if count == 1 {
-        return Parts {
-            written,
-            count: 2,
-            top: inner,
-            o1: outer,
-            o2,
-            o3,
-        };
-    }
-    if count == 2 {
-        return Parts {
-            written,
-            count: 3,
-            top: inner,
-            o1,
-            o2: outer,
-            o3,
-        };
-    }
-    Parts {
-        written,
-        count: 4,
-        top: inner,
-        o1,
-        o2,
-        o3: outer,
-    }
-}
-
 // 13, 12, and else the place with so many bytes more.
 fn grow(edition: Edition, n: usize, p: Parts, left: Joined, size: usize, first: usize) -> Decided
     requires { ⌜ Growable (layoutOf edition) n p (left .count) size first ⌝ }
     ensures is { λ r. ⌜ decisionOf r ≡ growing (layoutOf edition) n p (left .count) (left .top) size first ⌝ }
     ensures kept { λ r. ⌜ ((r .number ≡ 0 → ⊥) → r .place ≡ p) ⌝ }
 {
-    let number = room(edition, n, p.written + size);
+    let sum = p.written + size;
+    let number = room(edition, n, sum);
     if number != 0 {
         return Decided { number, place: p };
     }
-    let place = enter(p, left, size, first);
+    let place = enter(p, left, sum, first);
     Decided { number: 0, place }
 }
 

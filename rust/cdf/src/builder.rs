@@ -2,7 +2,7 @@
 #![forbid(unsafe_code)]
 
 use crate::sys;
-use crate::{Action, Id, Refusal};
+use crate::{Action, BatchRefusal, Id, Refusal, Request};
 
 /// What a stream can be.
 #[derive(Clone, Copy, Debug, PartialEq, Eq)]
@@ -60,6 +60,32 @@ impl<'b> Builder<'b> {
         match sys::build_next(self.buffer, &mut self.place, id.number(), action.number(), data) {
             0 => Ok(self),
             number => Err(Refusal::nowhere(number)),
+        }
+    }
+
+    /// Adds these units one after the other, as [`add`](Builder::add) does, or none of them. Each has its own data in the text, in parts
+    /// that may overlap. At most 512, else 21.
+    ///
+    /// ```
+    /// use cdf::{Action, Builder, Id, Request, Root};
+    ///
+    /// let text = b"\x06PERSON\0\0\0\x01\x07SURNAME\xC3\x85s";
+    /// let person = Request::new(Id::Template, Action::Create, 0..7);
+    /// let key = Request::new(Id::TemporaryKey, Action::None, 7..11);
+    /// let surname = Request::new(Id::Field, Action::Create, 11..22);
+    /// let mut buffer = [0; 1000];
+    /// let mut group = Builder::new(&mut buffer, Root::ErGroup)?;
+    /// // No key twice: nothing is built.
+    /// let refused = group.batch(&[person, key, key, surname], text).unwrap_err();
+    /// assert_eq!((refused.refusal.number, refused.rank, group.written()), (7, Some(2), 6));
+    /// group.batch(&[person, key, surname], text)?;
+    /// assert_eq!(group.finish()?.len(), 46);
+    /// # Ok::<(), cdf::Refusal>(())
+    /// ```
+    pub fn batch(&mut self, requests: &[Request], text: &[u8]) -> Result<&mut Self, BatchRefusal> {
+        match sys::build_batch(self.buffer, &mut self.place, requests, text) {
+            (0, _) => Ok(self),
+            (number, rank) => Err(BatchRefusal::at(number, rank)),
         }
     }
 

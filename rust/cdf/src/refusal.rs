@@ -13,7 +13,7 @@ use std::fmt;
 /// ```
 #[derive(Clone, Copy, Debug, PartialEq, Eq, Hash)]
 pub struct Refusal {
-    /// Which rule is broken first, 2 to 20. Section 4 of docs/FORMAT.md has them all.
+    /// Which rule is broken first, 2 to 21. Section 4 of docs/FORMAT.md has them all.
     pub number: u64,
     /// Of check and reader, with 3 to 8 where the unit begins that breaks the rule, with 9 the first byte in it that does, with 10 where
     /// the unit begins that lacks something; with 19 where the template begins, and with 20 the entity key. The numbers of builder and
@@ -54,6 +54,7 @@ impl Refusal {
             18 => "more than 256 templates have temporary keys",
             19 => "a template has the name and the temporary key of an earlier one",
             20 => "no earlier template has the name and the temporary key of an entity key",
+            21 => "the list has more than 512 requests",
             _ => "a number that this version does not know",
         }
     }

@@ -19,11 +19,30 @@ pub type Rescued = [u64; 130];
 pub type Resolved = [u64; 2];
 /// The numbers of a builder's place, `CDF_BUILD_PLACE_NUMBERS`.
 pub type BuildPlace = [u64; 10];
+/// A request of a list, `struct cdf_request`.
+#[derive(Clone, Copy, Debug, PartialEq, Eq, Hash)]
+#[repr(C)]
+pub struct Request {
+    pub id: u64,
+    pub action: u64,
+    pub begin: u64,
+    pub end: u64,
+}
+/// A builder's place by value, `struct cdf_builder`.
+#[repr(C)]
+pub struct Building(BuildPlace);
+/// What a list is told, `struct cdf_batched`.
+#[repr(C)]
+pub struct Batched {
+    number: u64,
+    rank: u64,
+    place: Building,
+}
 /// As many bytes as the listing of any stream takes, `CDF_LISTING_ROOM`.
 pub const LISTING_ROOM: usize = 207_527;
 
 mod archive {
-    use super::{Answer, Batch, BuildPlace, Explained, Found, Place, Rescued, Resolved};
+    use super::{Answer, Batch, Batched, BuildPlace, Building, Explained, Found, Place, Request, Rescued, Resolved};
 
     extern "C" {
         pub fn cdf_version() -> u64;
@@ -79,6 +98,15 @@ mod archive {
             group_length: usize,
         ) -> u64;
         pub fn cdf_build_finish(buffer: *const u8, buffer_length: usize, place: &BuildPlace, answer: &mut [u64; 1]) -> u64;
+        pub fn cdf_build_batch(
+            place: Building,
+            buffer: *mut u8,
+            buffer_length: usize,
+            requests: *const Request,
+            count: usize,
+            text: *const u8,
+            text_length: usize,
+        ) -> Batched;
     }
 }
 
@@ -207,4 +235,13 @@ pub fn build_finish(buffer: &[u8], place: &BuildPlace) -> (u64, u64) {
     // SAFETY: as above.
     let number = unsafe { archive::cdf_build_finish(buffer.as_ptr(), buffer.len(), place, &mut answer) };
     (number, answer[0])
+}
+
+/// All requests of a list, or none: the number, and the rank of the request that it is of.
+pub fn build_batch(buffer: &mut [u8], place: &mut BuildPlace, requests: &[crate::Request], text: &[u8]) -> (u64, u64) {
+    let (at, list) = (Building(*place), requests.as_ptr().cast::<Request>());
+    // SAFETY: as above; a request of this crate is one of the archive, in a transparent struct.
+    let told = unsafe { archive::cdf_build_batch(at, buffer.as_mut_ptr(), buffer.len(), list, requests.len(), text.as_ptr(), text.len()) };
+    *place = told.place.0;
+    (told.number, told.rank)
 }

@@ -65,7 +65,7 @@ fn states_are_the_headers() {
 fn every_refusal_has_words() {
     let unknown = Refusal { number: 99, offset: None }.rule();
     let refusals: Vec<u64> = constants().into_iter().filter(|(name, _)| name.starts_with("CDF_ERR_")).map(|(_, number)| number).collect();
-    assert_eq!(refusals.len(), 19);
+    assert_eq!(refusals.len(), 20);
     for number in refusals {
         assert_ne!(Refusal { number, offset: None }.rule(), unknown, "{number}");
     }
@@ -103,6 +103,8 @@ fn in_rust(parameter: &str, constants: &BTreeMap<String, u64>) -> String {
         ("uint8_t", None) => "*mut u8".to_string(),
         ("size_t", None) => "usize".to_string(),
         ("uint64_t", None) => "u64".to_string(),
+        ("struct cdf_builder", None) => "Building".to_string(),
+        ("const struct cdf_request", None) => "*const Request".to_string(),
         other => format!("{other:?}"),
     };
     format!("{name}: {of}")
@@ -118,14 +120,17 @@ fn declarations_are_the_headers() {
         let (name, array) = line.trim_end_matches(';').split_once(" = ").unwrap();
         declared = declared.replace(&format!("&mut {name}"), &format!("&mut {array}")).replace(&format!("&{name}"), &format!("&{array}"));
     }
-    let mut missing = Vec::new();
-    for prototype in headers.split("uint64_t cdf_").skip(1) {
-        let (name, rest) = prototype.split_once('(').unwrap();
+    let (mut missing, mut met) = (Vec::new(), 0);
+    for prototype in headers.split(';').filter(|text| text.contains('(')) {
+        let (front, rest) = prototype.split_once('(').unwrap();
+        let (returned, name) = front.lines().last().unwrap().rsplit_once(" cdf_").unwrap();
+        let returned = if returned == "struct cdf_batched" { "Batched" } else { "u64" };
         let parameters = rest.split_once(')').unwrap().0;
         let parameters: Vec<String> =
             parameters.split(',').map(str::trim).filter(|&one| one != "void").map(|one| in_rust(one, &constants)).collect();
-        let one_line = format!("pub fn cdf_{name}({}) -> u64;", parameters.join(", "));
-        let several = format!("pub fn cdf_{name}( {}, ) -> u64;", parameters.join(", "));
+        let one_line = format!("pub fn cdf_{name}({}) -> {returned};", parameters.join(", "));
+        let several = format!("pub fn cdf_{name}( {}, ) -> {returned};", parameters.join(", "));
+        met += 1;
         match declared.contains(&format!("pub fn cdf_{name}(")) {
             true => assert!(declared.contains(&one_line) || declared.contains(&several), "{one_line}"),
             false => missing.push(name.to_string()),
@@ -133,7 +138,40 @@ fn declarations_are_the_headers() {
     }
     // An iterator reads many units in a call and needs no log, and a reader that is dropped is given up.
     assert_eq!(missing, ["next", "abnormal_end", "replay", "table_replay"]);
-    assert_eq!(declared.matches("pub fn ").count(), headers.matches("uint64_t cdf_").count() - missing.len());
+    assert_eq!(declared.matches("pub fn ").count(), met - missing.len());
+}
+
+/// Structs cross as their fields stand: those of a place are numbers alone, as many as the array has.
+#[test]
+fn structs_are_the_headers() {
+    let (source, headers, constants) = (text("rust/cdf/src/sys.rs"), headers(), constants());
+    let fields = |name: &str| {
+        let said = headers.split(&format!("struct {name} {{")).nth(1).unwrap().split('}').next().unwrap();
+        let mut fields = Vec::new();
+        for line in said.split(';').map(str::trim).filter(|line| !line.is_empty()) {
+            let (kind, names) =
+                line.rsplit_once("uint64_t ").map_or_else(|| line.rsplit_once(' ').unwrap(), |(_, names)| ("uint64_t", names));
+            fields.extend(names.split(", ").map(|name| (kind.to_string(), name.to_string())));
+        }
+        fields
+    };
+    let declared = |name: &str| {
+        let said = source.split(&format!("pub struct {name} {{")).nth(1).unwrap().split('}').next().unwrap();
+        let lines = said.lines().map(str::trim).filter(|line| !line.is_empty());
+        let named = |line: &str| {
+            line.trim_start_matches("pub ").trim_end_matches(',').split_once(": ").map(|(name, kind)| (kind.to_string(), name.to_string()))
+        };
+        lines.map(|line| named(line).unwrap()).collect::<Vec<_>>()
+    };
+    let in_rust = |fields: Vec<(String, String)>| {
+        let kind = |kind: String| kind.replace("uint64_t", "u64").replace("struct cdf_builder", "Building");
+        fields.into_iter().map(|(of, name)| (kind(of), name)).collect::<Vec<_>>()
+    };
+    assert_eq!(in_rust(fields("cdf_request")), declared("Request"));
+    assert_eq!(in_rust(fields("cdf_batched")), declared("Batched"));
+    let place = fields("cdf_builder");
+    assert!(place.iter().all(|(kind, _)| kind == "uint64_t") && place.len() as u64 == constants["CDF_BUILD_PLACE_NUMBERS"]);
+    assert!(source.contains("pub struct Building(BuildPlace);"));
 }
 
 /// Which kinds have names, values and numbers, and how long they are, is what the proved crates of own data say.

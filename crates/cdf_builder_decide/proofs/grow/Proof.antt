@@ -4,14 +4,16 @@ use borrow.Author.Needs.{needs}
 use borrow.Author.Tests.{ne-eqb}
 use Rattle.cdf_builder_spec.specs.Place.{BuilderPlace}
 use Rattle.cdf_builder_spec.specs.Calls.{Decision}
+use Rattle.cdf_builder_spec.specs.Slots.{placed}
+use Rattle.cdf_builder_enter.proofs.Entered.{entered-is}
 use Rattle.cdf_builder_decide.proofs.grow.Statement.{statement}
 use Rattle.cdf_builder_decide.proofs.grow.Tie as tie
 
 abbrev done : BuilderPlace → Decision
 done p = record { number = 0; place = p }
 
-add-room : tie.Need-add-room
-add-room c = search needs
+add-sum : tie.Need-add-sum
+add-sum c = search needs
 
 room-requires : tie.Need-room-requires
 room-requires c κs = search needs
@@ -22,14 +24,16 @@ returns c =
     (rw (← asked .ensures, ne-eqb (asked .result) 0 (c .if1 .taken)), λ some. refl)
 
 enter-requires : tie.Need-enter-requires
-enter-requires c κs =
-    let pre = c .before .before .before .pre in
-    (pre .sum, pre .slot (sym (c .before .room .ensures) ∙ c .if1 .left))
+enter-requires c κs = search needs
 
 returns-2 : tie.Need-returns-2
 returns-2 c =
-    let none = sym (c .before .before .room .ensures) ∙ c .before .if1 .left in
-    (rw none (ap done (c .enter .ensures)), λ some. absurd (some refl))
+    let asked = c .before .before in
+    let start = asked .before .before in
+    let none = sym (asked .room .ensures) ∙ c .before .if1 .left in
+    let a = start .args in
+    let grew = entered-is (a .p) (a .left .count) (a .left .top) _ (a .first) (start .pre .slot none) in
+    (rw none (ap done (ap placed (c .enter .ensures) ∙ grew)), λ some. absurd (some refl))
 
 pub grow-spec : {M : Type 1} → statement M
-grow-spec = tie.close (tie.spec add-room room-requires returns enter-requires returns-2)
+grow-spec = tie.close (tie.spec add-sum room-requires returns enter-requires returns-2)

@@ -1,0 +1,5 @@
+pub mod Computed
+pub mod Staged
+pub mod Judging
+pub mod Walking
+pub mod Proved

@@ -1,0 +1,5 @@
+pub mod Asking
+pub mod Batches
+pub mod Refusing
+pub mod Samples
+pub mod Claims
