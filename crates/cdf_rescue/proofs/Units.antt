@@ -1,16 +1,16 @@
 -- The unit at the front, by what its prefix and the check tell of it.
 use Prim.Native.Nat.{ℕ, _≤_}
 use mathlib.Core.Path.{_≡_, refl, sym, ap, _∙_}
-use mathlib.Core.Bool.{false, true}
+use mathlib.Core.Bool.{Bool, false, true, cond}
 use mathlib.Core.List.{List}
 use native.Mathlib.Omega.{arith}
 use borrow.Author.Tests.{ne-eqb, not-false}
-use lib.Dec.{eqb}
-use lib.ListN.{length}
+use lib.Dec.{eqb, ltb}
+use lib.ListN.{length, getD}
 use Rattle.cdf_unit_table.specs.Ids.{erGroup}
 use Rattle.cdf_unit_table.specs.States.{admit, admits, nothing}
 use Rattle.cdf_unit_table.proofs.Rows.{admits-nested}
-use Rattle.cdf_unit_prefix.specs.Layout.{Layout}
+use Rattle.cdf_unit_prefix.specs.Layout.{Layout, prefixOf, marked}
 use Rattle.cdf_unit_prefix.specs.Rules.{headOf}
 use Rattle.cdf_unit_prefix.specs.declared.Header.{Header}
 use Rattle.cdf_unit_prefix.specs.declared.Header.the-variants.{Stop, Prefix}
@@ -25,6 +25,11 @@ use Rattle.cdf_check.specs.declared.Checked.the-variants.{Accepted, Refused}
 use Rattle.cdf_check.proofs.Exact.{refused-numbered}
 use Rattle.cdf_rescue_spec.specs.Salvage.{wholeAt}
 use Rattle.cdf_rescue.specs.Parts.{isHeaded}
+
+-- A broken rule 3 or 4 is no prefix.
+stopped : (short : Bool) → isHeaded (cond short (Stop 3) (Stop 4)) ≡ false
+stopped true = refl
+stopped false = refl
 
 module _ (l : Layout) (s : List ℕ) where
   abbrev state : ℕ
@@ -51,6 +56,11 @@ module _ (l : Layout) (s : List ℕ) where
       by (Prefix id action len) is none =
           let out : eqb (admits false state id) 0 ≡ true = rw (admits-nested state id) (not-false (eqb (admit state id) 0) none) in
           sym (none-judged {n = 7} {k = 0} (rw (is, out)))
+
+  -- Nor does one where the mark's first byte is not there.
+  pub none-marked : (getD s 0 0 ≡ 0xcd → ⊥) → wholeAt l s ≡ 0
+  unfolding headOf marked
+  none-marked other = none-headed (rw (ne-eqb (getD s 0 0) 0xcd other) (stopped (ltb (length s) (prefixOf l))))
 
   pub none-checked : (n at : ℕ) → asAnswer (Refused n at) ≡ checkIn l state s → Refused n at ≡ checkedOf (listingIn l state s) → 0 ≡ wholeAt l s
   unfolding asAnswer listingIn

@@ -79,16 +79,21 @@ fn is_headed(edition: Edition, s: &[u8]) -> bool
     }
 }
 
-// Where the next unit stands whole, from a position on; the end where none does.
+// The first byte of the mark, in either edition.
+const MARK: u8 = 0xCD;
+
+// Where the next unit stands whole, from a position on; the end where none does. Most bytes are passed by the mark's first byte alone.
 fn next_whole(edition: Edition, s: &[u8], from: usize) -> usize
     requires { ⌜ from ≤ length (now s) ⌝ }
     ensures { λ r. ⌜ Gap (layoutOf edition) (now (s .entry)) from r ⌝ }
 {
     let mut at = from;
     while at < s.len() {
-        if is_headed(edition, &s[at..]) {
-            if whole_at(edition, &s[at..]) != 0 {
-                return at;
+        if s[at] == MARK {
+            if is_headed(edition, &s[at..]) {
+                if whole_at(edition, &s[at..]) != 0 {
+                    return at;
+                }
             }
         }
         at += 1;
