@@ -36,11 +36,6 @@ impl Place {
         Ok(Place { written: PREFIX, count: 1, open })
     }
 
-    pub fn finish(&self) -> Result<usize, u8> {
-        let whole = self.open[..self.count].iter().all(|open| open.progress.complete());
-        whole.then_some(self.written).ok_or(10)
-    }
-
     fn push(&mut self, id: u8) {
         if opens(id) {
             self.open[self.count] = Open { progress: Progress::new(id), start: self.written };

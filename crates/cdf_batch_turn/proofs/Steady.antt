@@ -2,16 +2,16 @@
 -- answers 0 the second tells 0.
 use Prim.Native.Nat.{ℕ, suc, _+_, _≤_}
 use mathlib.Core.Path.{_≡_, refl, sym, ap, _∙_}
-use mathlib.Core.Bool.{Bool, true, false, cond, not, _&&_, _||_}
+use mathlib.Core.Bool.{Bool, true, false, cond, not}
 use mathlib.Core.List.{List, [], _∷_, _++_}
 use native.Mathlib.Omega.{arith}
-use borrow.Author.Tests.{eqb-true, eqb-false, ne-eqb, le-ltb, lt-ltb, ltb-true, ltb-false}
+use borrow.Author.Tests.{eqb-true, eqb-false, le-ltb, lt-ltb, ltb-true, ltb-false}
 use lib.Dec.{eqb, ltb}
 use lib.ListN.{length}
 use Rattle.cdf_unit_table.specs.Ids.{known, actionAllowed}
 use Rattle.cdf_unit_table.specs.States.{nothing}
 use Rattle.cdf_unit_table.proofs.Bools.{past}
-use Rattle.cdf_unit_prefix.specs.Layout.{Layout, prefixOf}
+use Rattle.cdf_unit_prefix.specs.Layout.{Layout}
 use Rattle.cdf_reader_spec.proofs.Counted.{length-held}
 use Rattle.cdf_builder_spec.specs.Place.{BuilderPlace, fits}
 use Rattle.cdf_builder_spec.specs.Requests.{unit, bytesFor, joining, ending, completed, joinNumber, advanced, grown}

@@ -13,7 +13,7 @@ use Rattle.cdf_unit_prefix.specs.declared.Edition.the-variants.{First}
 use Rattle.cdf_grammar.specs.Encoding.{unitBytes}
 use Rattle.cdf_reader_spec.proofs.Counted.{length-held}
 use Rattle.cdf_builder_spec.specs.Place.{BuilderPlace, fits}
-use Rattle.cdf_builder_spec.specs.Requests.{bytesFor, joining, joinNumber, advanced, grown}
+use Rattle.cdf_builder_spec.specs.Requests.{joining, joinNumber, advanced, grown}
 use Rattle.cdf_builder_spec.specs.Calls.{Decision, Reply, callNumber, writeOf}
 use Rattle.cdf_builder_spec.specs.Slots.{noBegun, units, placed}
 use Rattle.cdf_builder_spec.specs.declared.Begun.{Begun}

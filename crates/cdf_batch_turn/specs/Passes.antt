@@ -11,7 +11,7 @@ use Rattle.cdf_unit_prefix.specs.declared.Edition.the-variants.{First}
 use Rattle.cdf_grammar.specs.Encoding.{unitBytes}
 use Rattle.cdf_builder_spec.specs.Place.{BuilderPlace, fits}
 use Rattle.cdf_builder_spec.specs.Requests.{joinNumber, grown}
-use Rattle.cdf_builder_spec.specs.Calls.{Reply, room, writeOf}
+use Rattle.cdf_builder_spec.specs.Calls.{room, writeOf}
 use Rattle.cdf_builder_faults.specs.Parts.{ownFault}
 use Rattle.cdf_batch_spec.specs.declared.UnitRequest.{UnitRequest}
 use Rattle.cdf_batch_spec.specs.Asking.{bounded, asked}

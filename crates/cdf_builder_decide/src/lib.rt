@@ -1,6 +1,6 @@
 // What the builder decides before it writes: whether a request is right where it stands, and the place then.
 ghost use mathlib.Core.Path.{_≡_};
-ghost use Prim.Native.Nat.{_+_, _≤_, _<_};
+ghost use Prim.Native.Nat.{_+_};
 ghost use Rattle.cdf_unit_prefix.specs.Layout.{layoutOf};
 ghost use Rattle.cdf_builder_spec.specs.Requests.{unit, group, joining, joinNumber, advanced};
 ghost use Rattle.cdf_builder_spec.specs.Calls.{decideOf};

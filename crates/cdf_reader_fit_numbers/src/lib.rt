@@ -1,6 +1,6 @@
 // Whether a place could belong to some bytes, straight on the numbers that cross to C: only those are read that the count reaches.
 ghost use mathlib.Core.Path.{_≡_};
-ghost use Rattle.cdf_unit_prefix.specs.Layout.{Layout, layoutOf};
+ghost use Rattle.cdf_unit_prefix.specs.Layout.{layoutOf};
 ghost use Rattle.cdf_reader_spec.specs.Place.{fits};
 ghost use Rattle.cdf_reader.specs.View.{view};
 ghost use Rattle.cdf_reader_numbers.specs.Numbers.{placeFrom};

@@ -1,6 +1,6 @@
 // The import desk: the entity keys of an E/R group resolved to the templates that they mean, in two passes over its units.
 ghost use mathlib.Core.Path.{_≡_};
-ghost use Prim.Native.Nat.{_+_, _≤_};
+ghost use Prim.Native.Nat.{_+_};
 ghost use mathlib.Core.Bool.{true};
 ghost use lib.ListN.{length};
 ghost use Rattle.cdf_unit_prefix.specs.Layout.{layoutFor, prefixOf};

@@ -71,7 +71,8 @@ module _ (step : tie.Joined2 Inv-loop μ-loop) where
       (sym (over .ensures) ∙ not-false (over .result) (e .0 .left)))
       (step .if2 .came)
 
-  on : Going (seek (l head) (bytes head) (asked head)) (l head) (bytes head) Seeking (nextOf (l head) (bytes head) (view (head .loop .a .place))) (step .if2 .state)
+  on : Going (seek (l head) (bytes head) (asked head)) (l head) (bytes head) Seeking (nextOf (l head) (bytes head) (view (head .loop .a .place)))
+      (step .if2 .state)
   on = goes-on (l head) (bytes head) (asked head) (replyOf (head .loop .a)) (head .loop .state) (in-hand head taken) _ folded
 
   placed : Placed (length (bytes head)) (outcomeOf (step .if2 .state))
