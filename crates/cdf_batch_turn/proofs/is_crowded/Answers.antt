@@ -1,0 +1,9 @@
+-- By whether a unit is entered.
+use borrow.Author.Tests.{eq-eqb, ne_eqb}
+use Rattle.cdf_batch_turn.proofs.is_crowded.Goals as goal
+
+pub returns-then-first-eq0 : goal.returns-then-first-eq0
+returns-then-first-eq0 c = rw (eq-eqb _ 0 c.if-first-eq0.true)
+
+pub returns : goal.returns
+returns-then-first-eq0 c = rw (ne_eqb _ 0 c.if-first-eq0.false)

@@ -1,0 +1,16 @@
+-- The call of the parts, as one of the struct (proofs/Passed).
+use borrow.Author.Rules.{rules}
+use Rattle.cdf_unit_prefix.specs.Layout.{layout_of}
+use Rattle.cdf_unit_prefix.specs.declared.Edition.TheVariants.{First}
+use Rattle.cdf_builder_spec.specs.Place.{BuilderPlace}
+use Rattle.cdf_builder_spec.specs.Requests.{unit}
+use Rattle.cdf_builder_spec.specs.Calls.{decide_of}
+use Rattle.cdf_builder.proofs.Passed.{decides, keeps}
+use Rattle.cdf_builder.proofs.Builder.decide.Goals as goal
+
+pub returns : goal.returns
+returns c =
+    let call = c.decide_unit-decided in
+    let given = c.parts-p.ensures in
+    let a = c.args in
+    let r = unit (record { id = a.id; action = a.action; text = a.«data».now }) in record { is = decides _ _ given _ _ c.answer.ensures (λ (p : BuilderPlace). decide_of (layout_of First) a.n p r) call.ensures.0; kept = keeps _ _ given _ _ c.answer.ensures call.ensures.1 }

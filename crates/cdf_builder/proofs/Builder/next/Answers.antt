@@ -1,0 +1,16 @@
+-- The call of the parts, as one of the struct (proofs/Passed).
+use borrow.Author.Rules.{rules}
+use Rattle.cdf_unit_prefix.specs.Layout.{layout_of}
+use Rattle.cdf_unit_prefix.specs.declared.Edition.TheVariants.{First}
+use Rattle.cdf_builder_spec.specs.Place.{BuilderPlace}
+use Rattle.cdf_builder_spec.specs.Requests.{unit}
+use Rattle.cdf_builder_spec.specs.Calls.{call_of}
+use Rattle.cdf_builder.proofs.Passed.{replies, keeps}
+use Rattle.cdf_builder.proofs.Builder.next.Goals as goal
+
+pub returns : goal.returns
+returns c =
+    let call = c.next_as-decided in
+    let given = c.parts-p.ensures in
+    let a = c.args in
+    let r = unit (record { id = a.id; action = a.action; text = a.«data».now }) in record { is = replies _ _ given _ _ c.answer.ensures (λ (p : BuilderPlace). call_of (layout_of First) a.buffer.now p r) _ call.ensures.0; kept = keeps _ _ given _ _ c.answer.ensures call.ensures.1 }

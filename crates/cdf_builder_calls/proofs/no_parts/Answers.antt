@@ -1,0 +1,6 @@
+-- Zeros alone.
+use borrow.Author.Rules.{rules}
+use Rattle.cdf_builder_calls.proofs.no_parts.Goals as goal
+
+pub returns : goal.returns
+returns c = rw c.no_begun-o.ensures

@@ -1,0 +1,37 @@
+-- 6, 7, 12, and else the root's prefix (proofs/Calling).
+use mathlib.Core.Path.{refl, sym, ◌∙◌}
+use borrow.Author.Rules.{rules}
+use borrow.Author.Tests.{not-true, not-false}
+use Rattle.cdf_reader_spec.specs.Slots.{around_of, held_of}
+use Rattle.cdf_builder_spec.proofs.Replying.{start_zero, start-done}
+use Rattle.cdf_builder_calls.proofs.Calling.{id_byte, start-unknown, start-inner, start-full}
+use Rattle.cdf_builder_calls.proofs.start_as.Goals as goal
+
+pub returns-then-not-is_known : goal.returns-then-not-is_known
+unfolding held_of
+returns-then-not-is_known c =
+    let asked = c.is_known in
+    let empty = c.no_parts-empty.ensures in
+    record { is = rw empty (sym (start-unknown _ _ _ (sym asked.ensures ∙ not-true asked.result c.if-not-is_known.true-raw))); kept = λ some. empty }
+
+pub returns-then-not-is_root_kind : goal.returns-then-not-is_root_kind
+unfolding held_of
+returns-then-not-is_root_kind c =
+    let asked = c.is_root_kind in
+    let id = c.is_known in
+    let empty = c.no_parts-empty.ensures in record {
+      is = rw empty (sym (start-inner _ _ _ (sym id.ensures ∙ not-false id.result c.if-not-is_known.false-raw)
+          (sym asked.ensures ∙ not-true asked.result c.if-not-is_root_kind.true-raw)));
+      kept = λ some. empty;
+    }
+
+pub returns-then-buffer-written : goal.returns-then-buffer-written
+unfolding held_of
+returns-then-buffer-written c =
+    let kind = c.is_root_kind in
+    let id = c.is_known in
+    let empty = c.no_parts-empty.ensures in record {
+      is = rw empty (sym (start-full _ _ _ (sym id.ensures ∙ not-false id.result c.if-not-is_known.false-raw)
+          (sym kind.ensures ∙ not-false kind.result c.if-not-is_root_kind.false-raw) (rw c.prefix-written.ensures.is at c.if-buffer-written.true)));
+      kept = λ some. empty;
+    }

@@ -1,0 +1,16 @@
+-- The bytes before `at` are copied; the measure is what is left of them.
+use Prim.Native.Nat.{◌+◌, ◌-◌}
+use mathlib.Core.Path.{refl}
+use native.Mathlib.Omega.{arith}
+use borrow.Author.Rules.{rules}
+use borrow.Rule.Slice.PartMut.{put_mid}
+use lib.ListN.{length}
+use Rattle.cdf_builder_copy.proofs.Lent.{enough}
+use Rattle.cdf_builder_copy.proofs.Copying.{Copied, copied_lent, copied_all}
+use Rattle.cdf_builder_copy.proofs.copy_eights.Given as goal
+
+abbrev pub invariant-loop-at : goal.invariant-loop-at
+invariant-loop-at l = Copied l.initial.tail l.bytes l.tail l.at
+
+abbrev pub decreases-loop-at : goal.decreases-loop-at
+decreases-loop-at l = length l.bytes - l.at

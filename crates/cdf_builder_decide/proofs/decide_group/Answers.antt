@@ -1,0 +1,66 @@
+-- Each return by its law (proofs/Stages). `Else1` to `Else3` are the places past the tests.
+use Prim.Native.Nat.{◌<◌}
+use mathlib.Core.Path.{◌≡◌, refl, sym, ◌∙◌}
+use mathlib.Core.Bool.{true}
+use native.Mathlib.Omega.{arith}
+use borrow.Author.Rules.{rules}
+use borrow.Author.Tests.{not-true, not-false}
+use lib.ListN.{length}
+use Rattle.cdf_unit_prefix.specs.Layout.{layout_of}
+use Rattle.cdf_builder_spec.specs.Place.{fits}
+use Rattle.cdf_builder_spec.specs.Requests.{group}
+use Rattle.cdf_builder_spec.specs.Slots.{placed}
+use Rattle.cdf_builder_decide.proofs.Stages.{declined, unfit, no-group, group-not-joined, Grows, grows, group_grows, sum_fits}
+use Rattle.cdf_builder_decide.proofs.Few.{growable}
+use Rattle.cdf_builder_decide.proofs.decide_group.Goals as goal
+
+fit : (c : goal.Else-not-is_fit) →
+    let a = c.args in
+    fits (layout_of a.edition) a.n (placed a.p) ≡ true
+fit c = sym c.is_fit.ensures ∙ not-false c.is_fit.result c.if-not-is_fit.false-raw
+
+-- A lent slice has less than 2^63 bytes.
+small : (c : goal.Else-not-is_fit) → length c.args.bytes.now < 9223372036854775808
+small c = omega arith
+
+-- No rule of its own is broken.
+asked : (c : goal.Else-left-ne0) →
+    let joined = c.before.before in
+    let a = c.args in
+    let left = c.join_place-left.result in
+    Grows (layout_of a.edition) a.n a.p (group a.bytes.now) left.count left.top (length a.bytes.now) 0
+asked c =
+    let joined = c.before.before in
+    let past = joined.before in
+    let fitted = past.before.before in
+    let fits = fit fitted in
+    let a = c.args in
+    group_grows _ _ _ _ _ fits _ (sym c.join_place-left.ensures.number ∙ c.if-left-ne0.false) c.join_place-left.ensures.left _ c.group_id-id.ensures
+    c.if-id-eq0.false (sum_fits a.edition _ _ _ fits (omega (arith, small fitted)))
+
+pub returns-then-not-is_fit : goal.returns-then-not-is_fit
+returns-then-not-is_fit c =
+    let asked = c.is_fit in
+    let out = sym asked.ensures ∙ not-true asked.result c.if-not-is_fit.true-raw in
+    record { is = sym (declined _ _ _ _ 2 (λ e. omega arith) (unfit _ _ _ _ out)); kept = λ some. refl }
+
+pub returns-then-id-eq0 : goal.returns-then-id-eq0
+returns-then-id-eq0 c =
+    let id = c.group_id-id in
+    record { is = sym (declined _ _ _ _ 14 (λ e. omega arith) (no-group _ _ _ _ (fit c.before.before) (sym id.ensures ∙ c.if-id-eq0.true))); kept = λ some. refl }
+
+pub returns-then-left-ne0 : goal.returns-then-left-ne0
+returns-then-left-ne0 c =
+    let joined = c.before.before in
+    let past = joined.before in
+    let id = c.group_id-id.ensures in record {
+      is = sym (declined _ _ _ _ _ c.if-left-ne0.true
+          (group-not-joined _ _ _ _ (fit past.before.before) _ id c.if-id-eq0.false _ c.join_place-left.ensures.number c.if-left-ne0.true));
+      kept = λ some. refl;
+    }
+
+pub grow-requires : goal.grow-requires
+grow-requires c = growable _ _ _ _ _ _ _ _ (asked c)
+
+pub returns : goal.returns
+returns-then-not-is_fit c = record { is = c.grow.ensures.is ∙ grows _ _ _ _ _ _ _ _ (asked c.before); kept = c.grow.ensures.kept }

@@ -1,0 +1,7 @@
+-- Number by number.
+use mathlib.Core.Path.{refl}
+use borrow.Author.Rules.{rules}
+use Rattle.cdf_builder_numbers.proofs.builder_from.Goals as goal
+
+pub returns : goal.returns
+returns c = refl

@@ -1,0 +1,34 @@
+-- The tail that is lent begins at the writing place, where there is room.
+use mathlib.Core.Path.{refl, sym, ◌∙◌}
+use Prim.Native.Nat.{◌+◌, ◌≤◌}
+use native.Mathlib.Omega.{arith}
+use borrow.Author.Rules.{rules}
+use borrow.Author.Tests.{leb-true}
+use lib.ListN.{length}
+use Rattle.cdf_builder_copy.proofs.Onto.{onto_lent}
+use Rattle.cdf_builder_write.proofs.Lent.{wrote, stayed}
+use Rattle.cdf_builder_write.proofs.write_bytes.Goals as goal
+
+room : (c : goal.Then-has_room) →
+    let a = c.args in
+    a.at + length a.bytes.now ≤ length a.buffer.now
+room c = leb-true _ _ (sym c.has_room.ensures ∙ c.if-has_room.true)
+
+pub slice_bounds-copy-count : goal.slice_bounds-copy-count
+slice_bounds-copy-count c = omega (arith, room c)
+
+pub slice_bounds-copy-start : goal.slice_bounds-copy-start
+slice_bounds-copy-start c = omega (arith, room c)
+
+pub returns-then-has_room : goal.returns-then-has_room
+returns-then-has_room c =
+    let put = c.before.before in
+    let then = put.before.before in
+    let a = c.args in
+    wrote a.at _ a.bytes.now a.buffer.now refl _ c.has_room.ensures c.if-has_room.true c.copy.new.0
+    (c.copy.ensures ∙ onto_lent a.at a.bytes.now a.buffer.now (room then))
+
+pub returns-else-has_room : goal.returns-else-has_room
+returns-else-has_room c =
+    let a = c.args in
+    stayed a.at _ a.bytes.now a.buffer.now refl _ c.has_room.ensures c.if-has_room.false

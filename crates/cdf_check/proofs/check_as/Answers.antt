@@ -1,0 +1,16 @@
+-- `check_as` meets its contract: the unit at the front is judged as a root, and the answers are the unit list's
+-- (proofs/Exact).
+use mathlib.Core.Path.{sym}
+use mathlib.Core.Bool.{true}
+use borrow.Author.Rules.{rules}
+use Rattle.cdf_check.proofs.Exact.{bytes_of, root_is, exact}
+use Rattle.cdf_check.proofs.check_as.Goals as goal
+
+pub check_front-requires : goal.check_front-requires
+check_front-requires c = (true, 0, sym c.judge_root.ensures)
+
+pub returns : goal.returns
+returns c =
+    let s = c.args.s.now in
+    let w = root_is _ s _ _ c.check_front.ensures c.judge_root.ensures in
+    record { answer = w.0; is = w.1; exact = λ n. exact c.args.edition s (bytes_of s (λ i. (c.shared_slice_known-1.given i).fits)) n _ w }

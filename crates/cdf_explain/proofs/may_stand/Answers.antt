@@ -1,0 +1,10 @@
+-- As a root where none is open.
+use borrow.Author.Rules.{rules}
+use borrow.Author.Tests.{eq-eqb, ne_eqb}
+use Rattle.cdf_explain.proofs.may_stand.Goals as goal
+
+pub returns-then-count-eq0 : goal.returns-then-count-eq0
+returns-then-count-eq0 c = rw (eq-eqb _ 0 c.if-count-eq0.true) c.is_root_kind.ensures
+
+pub returns : goal.returns
+returns-then-count-eq0 c = rw (ne_eqb _ 0 c.if-count-eq0.false, c.state_after.ensures)

@@ -1,0 +1,24 @@
+-- The text by the case of the check's answer.
+use mathlib.Core.Path.{sym, ◌∙◌}
+use borrow.Author.Rules.{rules}
+use Rattle.cdf_unit_prefix.specs.Layout.{layout_of}
+use Rattle.cdf_unit_prefix.specs.declared.Edition.TheVariants.{First}
+use Rattle.cdf_listing.proofs.Lining.{lines-near}
+use Rattle.cdf_listing.proofs.Answered.{accepted, turned_down}
+use Rattle.cdf_listing_lines.proofs.Putting.{put_both}
+use Rattle.cdf_listing.proofs.put_listing.Goals as goal
+
+pub overflow_cast-at : goal.overflow_cast-at
+overflow_cast-at c = let near = lines-near _ c.put_units-at.ensures in search rules
+
+pub returns-in-Accepted : goal.returns-in-Accepted
+returns-in-Accepted c =
+    let case = c.units-1.given in
+    rw (accepted (layout_of First) c.args.s.now case.0.0 (sym c.check_as.ensures.is ∙ case.1))
+    (put_both c.put_units-at.ensures c.put_ok.ensures)
+
+pub returns-in-Refused : goal.returns-in-Refused
+returns-in-Refused c =
+    let case = c.number-1.given in
+    rw (turned_down (layout_of First) c.args.s.now case.0.0 case.0.1.0 (sym c.check_as.ensures.is ∙ case.1))
+    c.before.before.Put-refused.ensures

@@ -1,0 +1,15 @@
+-- Where not every text fits, the pass that only counts tells the length of this one.
+use mathlib.Core.Path.{ap, sym, ◌∙◌}
+use native.Mathlib.Nat.{zero-add}
+use borrow.Author.Rules.{rules}
+use lib.Dec.{leb}
+use Rattle.cdf_listing.proofs.Filled.{ample}
+use Rattle.cdf_listing.proofs.text_fits.Goals as goal
+
+pub returns-then-any_fits : goal.returns-then-any_fits
+returns-then-any_fits c =
+    sym (ample c.args.s.now c.args.room (sym c.any_fits.ensures ∙ c.if-any_fits.true))
+
+pub returns : goal.returns
+returns-then-any_fits c =
+    ap (λ n. leb n c.args.room) (c.put_listing-size.ensures.next ∙ zero-add _)

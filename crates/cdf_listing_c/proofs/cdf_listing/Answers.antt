@@ -1,0 +1,11 @@
+-- The number and the length of what write_listing answers.
+use mathlib.Core.Path.{ap}
+use mathlib.Core.List.{[], ◌∷◌}
+use borrow.Author.Rules.{rules}
+use Rattle.cdf_listing.specs.declared.Written.{Written}
+use Rattle.cdf_listing_c.proofs.cdf_listing.Goals as goal
+
+pub returns : goal.returns
+returns c =
+    let wrote = c.write_listing-written.ensures in
+    record { number = ap (λ (w : Written). w.number) wrote.0; answer = ap (λ (w : Written). w.length ∷ []) wrote.0; bytes = wrote.1 }

@@ -1,0 +1,11 @@
+-- The empty place and no unit.
+use mathlib.Core.Path.{refl}
+use borrow.Author.Rules.{rules}
+use Rattle.cdf_reader_spec.specs.Slots.{open_units, open_ranks}
+use Rattle.cdf_reader.proofs.Place.abnormal_end.Goals as goal
+
+pub returns : goal.returns
+unfolding open_units open_ranks
+returns c =
+    let all = rw (c.answered.ensures, c.moved-o.ensures, c.no_cursor-empty.ensures) (refl, refl) in
+    record { is = all.0; cleared = all.1 }

@@ -1,0 +1,18 @@
+-- The outcome at the place's cursor (proofs/Answering), of the call by its name.
+use mathlib.Core.Path.{refl, ◌∙◌}
+use borrow.Author.Rules.{rules}
+use Rattle.cdf_unit_prefix.specs.Layout.{layout_of}
+use Rattle.cdf_reader_spec.specs.Calls.{previous_of}
+use Rattle.cdf_reader_spec.proofs.Replying.{previous-named}
+use Rattle.cdf_reader.proofs.Answering.{due, stays}
+use Rattle.cdf_reader.proofs.Place.previous.Goals as goal
+
+pub returns : goal.returns
+returns c =
+    let s = c.args.s.now in
+    let all = rw (← c.edition_of-edition.ensures) (
+      due _ _ c.cursor-c.ensures _ _ c.answered.ensures (previous_of (layout_of c.edition_of-edition.result) s)
+          (c.call_at-o.ensures.is ∙ previous-named _ _ _),
+      stays _ _ c.cursor-c.ensures _ _ c.answered.ensures (c.call_at-o.ensures.again refl),
+    ) in
+    record { is = all.0; kept = all.1 }

@@ -1,0 +1,8 @@
+-- The call by its name.
+use mathlib.Core.Path.{◌∙◌}
+use borrow.Author.Rules.{rules}
+use Rattle.cdf_reader_spec.proofs.Replying.{skip-named}
+use Rattle.cdf_reader.proofs.Place.skip.Goals as goal
+
+pub returns : goal.returns
+returns c = record { is = c.call.ensures.is ∙ skip-named _ _ _; kept = c.call.ensures.kept }

@@ -1,0 +1,16 @@
+-- The outcome of a start, as an answer.
+use mathlib.Core.Path.{ap, ◌∙◌}
+use borrow.Author.Rules.{rules}
+use Rattle.cdf_reader.specs.View.{reply_of}
+use Rattle.cdf_reader.specs.Cursors.{place_with}
+use Rattle.cdf_reader.specs.declared.Answer.{Answer}
+use Rattle.cdf_reader.proofs.first_as.Goals as goal
+
+pub returns : goal.returns
+returns c =
+    let is = c.answered.ensures in
+    let told = c.first_as-o.ensures in record {
+      is = ap reply_of is ∙ told.0;
+      kept = λ some.
+          ap (λ (a : Answer). a.place) is ∙ ap place_with (told.1 (λ z. some (ap (λ (a : Answer). a.number) is ∙ z)));
+    }

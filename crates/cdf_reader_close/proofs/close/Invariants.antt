@@ -1,0 +1,14 @@
+-- The loop keeps `Going` (proofs/Closings); what is left falls with each turn.
+use mathlib.Core.Path.{refl, sym, ◌∙◌}
+use native.Mathlib.Omega.{arith}
+use borrow.Author.Rules.{rules}
+use borrow.Author.Tests.{not-true, not-false}
+use Rattle.cdf_reader_spec.specs.Slots.{open_units}
+use Rattle.cdf_reader_close.proofs.Closings.{Going, stopped, on}
+use Rattle.cdf_reader_close.proofs.close.Given as goal
+
+abbrev pub invariant-loop-left : goal.invariant-loop-left
+invariant-loop-left l = Going l.position (open_units l.count l.initial.inner l.o1 l.o2 l.o3) l.o1 l.o2 l.o3 l.left l.inner
+
+abbrev pub decreases-loop-left : goal.decreases-loop-left
+decreases-loop-left l = l.left

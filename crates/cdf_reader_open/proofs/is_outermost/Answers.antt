@@ -1,0 +1,6 @@
+-- The tests of the definition.
+use borrow.Author.Rules.{rules}
+use Rattle.cdf_reader_open.proofs.is_outermost.Goals as goal
+
+pub returns : goal.returns
+returns c = rw c.is_root.ensures

@@ -1,0 +1,21 @@
+-- As of two (proofs/Holding).
+use mathlib.Core.Path.{sym, ◌∙◌}
+use borrow.Author.Tests.{not-true, not-false}
+use Rattle.cdf_unit_prefix.specs.Layout.{layout_of}
+use Rattle.cdf_reader_numbers.specs.Numbers.{place_from}
+use Rattle.cdf_reader_open_numbers.proofs.Holding.{four}
+use borrow.Author.Rules.{rules}
+use Rattle.cdf_reader_open_numbers.proofs.holds_four.Goals as goal
+
+pub returns-then-not-is_fourfold : goal.returns-then-not-is_fourfold
+returns-then-not-is_fourfold c =
+    let kinds = c.is_fourfold in
+    let a = c.args in
+    (four (layout_of a.edition) a.n a.most (place_from a.p.now)).0 (sym kinds.ensures ∙ not-true kinds.result c.if-not-is_fourfold.true-raw)
+
+pub returns : goal.returns
+returns-then-not-is_fourfold c =
+    let kinds = c.is_fourfold in
+    let a = c.args in
+    rw (c.is_past-3.ensures, c.is_past-2.ensures, c.is_past.ensures)
+    ((four (layout_of a.edition) a.n a.most (place_from a.p.now)).1 (sym kinds.ensures ∙ not-false kinds.result c.if-not-is_fourfold.false-raw))

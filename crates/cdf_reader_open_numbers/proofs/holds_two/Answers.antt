@@ -1,0 +1,21 @@
+-- The kinds, then where the units lie, then their ranks (proofs/Holding).
+use mathlib.Core.Path.{sym, ◌∙◌}
+use borrow.Author.Tests.{not-true, not-false}
+use Rattle.cdf_unit_prefix.specs.Layout.{layout_of}
+use Rattle.cdf_reader_numbers.specs.Numbers.{place_from}
+use Rattle.cdf_reader_open_numbers.proofs.Holding.{two}
+use borrow.Author.Rules.{rules}
+use Rattle.cdf_reader_open_numbers.proofs.holds_two.Goals as goal
+
+pub returns-then-not-is_pair : goal.returns-then-not-is_pair
+returns-then-not-is_pair c =
+    let kinds = c.is_pair in
+    let a = c.args in
+    (two (layout_of a.edition) a.n a.most (place_from a.p.now)).0 (sym kinds.ensures ∙ not-true kinds.result c.if-not-is_pair.true-raw)
+
+pub returns : goal.returns
+returns-then-not-is_pair c =
+    let kinds = c.is_pair in
+    let a = c.args in
+    rw c.is_past.ensures
+    ((two (layout_of a.edition) a.n a.most (place_from a.p.now)).1 (sym kinds.ensures ∙ not-false kinds.result c.if-not-is_pair.false-raw))

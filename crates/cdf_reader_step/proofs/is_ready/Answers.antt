@@ -1,0 +1,9 @@
+-- A start needs no place.
+use borrow.Author.Rules.{rules}
+use Rattle.cdf_reader_step.proofs.is_ready.Goals as goal
+
+pub returns-then-is_start : goal.returns-then-is_start
+returns-then-is_start c = rw (← c.is_start.ensures, c.if-is_start.true)
+
+pub returns : goal.returns
+returns-then-is_start c = rw (← c.is_start.ensures, c.if-is_start.false) c.is_fit.ensures

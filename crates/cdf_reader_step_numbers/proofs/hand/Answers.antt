@@ -1,0 +1,6 @@
+-- The numbers in their order.
+use mathlib.Core.Path.{refl}
+use Rattle.cdf_reader_step_numbers.proofs.hand.Goals as goal
+
+pub returns : goal.returns
+returns c = refl

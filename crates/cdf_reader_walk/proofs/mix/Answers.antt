@@ -1,0 +1,6 @@
+-- The operations are those of the definition.
+use mathlib.Core.Path.{refl}
+use Rattle.cdf_reader_walk.proofs.mix.Goals as goal
+
+pub returns : goal.returns
+returns c = refl

@@ -1,0 +1,67 @@
+-- The loop's invariant is proofs/Spans'.
+use Prim.Native.Nat.{ℕ, ◌-◌}
+use mathlib.Core.Path.{◌≡◌, sym, ap, ◌∙◌}
+use mathlib.Core.List.{List}
+use mathlib.Core.Logic.{inl, inr, ⊎_elim}
+use native.Mathlib.Omega.{arith}
+use borrow.Author.Rules.{rules}
+use lib.ListN.{length, get_or, drop}
+use lib.Seq.{get_or-drop}
+use Rattle.cdf_unit_prefix.specs.Layout.{layout_of}
+use Rattle.cdf_unit_table.proofs.Parts.{rest}
+use Rattle.cdf_rescue.proofs.Units.{none-headed, none-marked}
+use Rattle.cdf_rescue.proofs.Spans.{Passed, passed_none, passed_on, passed-all}
+use Rattle.cdf_rescue.proofs.next_whole.Goals as goal
+
+pub loop-at-init : goal.loop-at-init
+loop-at-init c = passed_none _ _ _ c.requires
+
+pub slice_bounds-is_headed-count : goal.slice_bounds-is_headed-count
+slice_bounds-is_headed-count c = omega arith
+
+pub slice_bounds-is_headed-start : goal.slice_bounds-is_headed-start
+slice_bounds-is_headed-start c = omega arith
+
+pub slice_bounds-is_headed-end : goal.slice_bounds-is_headed-end
+slice_bounds-is_headed-end c = omega arith
+
+pub slice_bounds-whole_at-count : goal.slice_bounds-whole_at-count
+slice_bounds-whole_at-count c = omega arith
+
+pub slice_bounds-whole_at-start : goal.slice_bounds-whole_at-start
+slice_bounds-whole_at-start c = omega arith
+
+pub slice_bounds-whole_at-end : goal.slice_bounds-whole_at-end
+slice_bounds-whole_at-end c = omega arith
+
+pub returns-then-whole_at-ne0 : goal.returns-then-whole_at-ne0
+returns-then-whole_at-ne0 c =
+    passed-all _ _ _ _ c.loop-at.invariant (inr (λ z. c.if-whole_at-ne0.true (simp rest at c.whole_at.ensures.is ∙ z)))
+
+pub overflow_add-at : goal.overflow_add-at
+overflow_add-at c = omega (arith, c.loop-at-test.true)
+
+pub loop-at-smaller : goal.loop-at-smaller
+loop-at-smaller c = omega (arith, c.loop-at-test.true)
+
+-- The byte at a position is the first of what is left from it on.
+front : (s : List ℕ) (at : ℕ) → get_or s at 0 ≡ get_or (drop at s) 0 0
+front s at = ap (λ k. get_or s k 0) (omega arith) ∙ sym (get_or-drop at s 0 0)
+
+-- A unit's prefix does not stand here, or the unit is not whole.
+pub loop-at-preserved : goal.loop-at-preserved
+loop-at-preserved c =
+    let here = c.loop-at.at in
+    let bytes = c.args.s.now in
+    let on = passed_on _ _ _ _ c.loop-at.invariant c.loop-at-test.true in
+    ⊎_elim
+    (λ t. on (sym (simp rest at t.5.ensures.0) ∙ t.6.left))
+    (λ r. ⊎_elim
+    (λ u. on (none-headed _ _ (simp rest at (sym u.2.ensures ∙ u.3.left))))
+    (λ e. on (none-marked _ _ (λ z. e.left (front bytes here ∙ z))))
+    r)
+    c.if-s-at.branch
+
+pub returns : goal.returns
+returns-then-whole_at-ne0 c =
+    passed-all _ _ _ _ c.loop-at.invariant (inl (omega (arith, c.loop-at.invariant.high, c.loop-at-test.false)))

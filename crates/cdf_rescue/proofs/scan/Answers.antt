@@ -1,0 +1,62 @@
+-- The loop's invariant is proofs/Scanning's.
+use Prim.Native.Nat.{◌-◌, ◌<◌}
+use mathlib.Core.Path.{refl}
+use native.Mathlib.Omega.{arith}
+use borrow.Author.Rules.{rules}
+use lib.ListN.{length}
+use Rattle.cdf_unit_prefix.specs.Layout.{layout_of}
+use Rattle.cdf_rescue.proofs.Scanning.{Scanning, scan-begun, later, scan-on, scan-many, scan-all}
+use Rattle.cdf_rescue.proofs.scan.Goals as goal
+
+pub last_whole-at-requires : goal.last_whole-at-requires
+last_whole-at-requires c = omega (arith, c.prefix-first.ensures.is, c.requires)
+
+pub overflow_sub-kept : goal.overflow_sub-kept
+overflow_sub-kept c = c.last_whole-at.ensures.low
+
+pub loop-at-init : goal.loop-at-init
+loop-at-init c = rw (← c.prefix-first.ensures.is) at (scan-begun _ _ _ (rw c.prefix-first.ensures.is at c.last_whole-at.ensures))
+
+pub returns-then-runs-eq64 : goal.returns-then-runs-eq64
+returns-then-runs-eq64 c =
+    scan-many _ _ _ _ _ _ _ c.loop-at.invariant c.loop-at-test.true c.if-runs-eq64.true _ refl
+
+pub next_whole-start-requires : goal.next_whole-start-requires
+next_whole-start-requires c = c.loop-at.invariant.high
+
+-- There is an entry for one run more.
+few : (c : goal.After-next_whole-start invariant_loop decreases_loop) → c.loop-at.runs < 64
+few c = omega (arith, c.if-runs-eq64.false, c.loop-at.invariant.few)
+
+pub bounds-from-runs : goal.bounds-from-runs
+bounds-from-runs c = few c
+
+pub bounds-to-runs : goal.bounds-to-runs
+bounds-to-runs c = few c
+
+pub overflow_add-runs : goal.overflow_add-runs
+overflow_add-runs c = omega (arith, few c)
+
+pub last_whole-at-requires-in-loop-at : goal.last_whole-at-requires-in-loop-at
+last_whole-at-requires-in-loop-at c = c.next_whole-start.ensures.high
+
+pub overflow_sub-kept-in-loop-at : goal.overflow_sub-kept-in-loop-at
+overflow_sub-kept-in-loop-at c = c.last_whole-at-in-loop-at.ensures.low
+
+pub overflow_add-kept : goal.overflow_add-kept
+overflow_add-kept c =
+    let g = c.loop-at.invariant in
+    omega (arith, g.within, c.next_whole-start.ensures.low, c.last_whole-at-in-loop-at.ensures.low, c.last_whole-at-in-loop-at.ensures.high)
+
+pub loop-at-smaller : goal.loop-at-smaller
+loop-at-smaller c =
+    let some = later _ _ _ _ _ _ _ c.loop-at.invariant c.loop-at-test.true _ c.next_whole-start.ensures in
+    omega (arith, some, c.last_whole-at-in-loop-at.ensures.low, c.last_whole-at-in-loop-at.ensures.high)
+
+pub loop-at-preserved : goal.loop-at-preserved
+loop-at-preserved c =
+    scan-on _ _ _ _ _ _ _ c.loop-at.invariant c.loop-at-test.true _ _ (few c.before) c.next_whole-start.ensures
+    c.last_whole-at-in-loop-at.ensures
+
+pub returns : goal.returns
+returns-then-runs-eq64 c = scan-all _ _ _ _ _ _ _ c.loop-at.invariant c.loop-at-test.false _ refl refl refl refl refl

@@ -1,0 +1,31 @@
+-- Where the arrays are full, and where they are not.
+use mathlib.Core.Path.{◌≡◌}
+use borrow.Author.Rules.{rules}
+use Rattle.cdf_resolve.proofs.Keeping.{hold-full, hold-new, hold-doubled}
+use Rattle.cdf_resolve.proofs.hold.Goals as goal
+
+-- What was given, where one alike has been looked for; there was room.
+abbrev start : goal.After-find-i → goal.Start
+start find = find.before.before.before.before.before.before.before.before
+
+room : (find : goal.After-find-i) → (start find).args.t.templates ≡ 256 → ⊥
+room find = find.if-n-eq256.false
+
+pub returns-then-n-eq256 : goal.returns-then-n-eq256
+returns-then-n-eq256 c =
+    let a = c.args in
+    λ p k. hold-full _ a.s.now p a.t _ _ _ k a.owner c.if-n-eq256.true
+
+pub returns-then-i-n : goal.returns-then-i-n
+returns-then-i-n c =
+    let find = c.before in
+    let a = (start find).args in
+    λ p k. hold-new _ a.s.now p a.t _ _ _ k a.owner (room find) (start find).requires.2 _ c.find-i.ensures c.if-i-n.true
+
+pub returns : goal.returns
+returns-then-n-eq256 c =
+    let find = c.before.before in
+    let a = (start find).args in
+    λ p k.
+    rw c.doubled_at-graver.ensures
+    (hold-doubled _ a.s.now p a.t _ _ _ k a.owner (room find) (start find).requires.2 _ c.find-i.ensures c.if-i-n.false)

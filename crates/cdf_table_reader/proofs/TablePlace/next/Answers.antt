@@ -1,0 +1,10 @@
+-- The constant is the table's list: one computation over all its entries.
+use borrow.Author.Rules.{rules}
+use Rattle.cdf_table_reader_spec.specs.Table.{entries}
+use Rattle.cdf_table_reader.proofs.TablePlace.next.Goals as goal
+
+pub returns : goal.returns
+unfolding entries
+returns c =
+    let all = c.next_in.ensures in
+    record { is = all.0; kept = all.1 }

@@ -1,0 +1,21 @@
+-- By the tests of the code, and at an entry by the entry.
+use mathlib.Core.Path.{◌∙◌}
+use native.Mathlib.Omega.{arith}
+use borrow.Author.Rules.{rules}
+use Rattle.cdf_table_reader_spec.proofs.Looks.{no_row, before-ids, past-ids, at_entry}
+use Rattle.cdf_table_reader_judge.proofs.look.Goals as goal
+
+pub returns-then-state-gt30 : goal.returns-then-state-gt30
+returns-then-state-gt30 c = no_row _ _ _ c.if-state-gt30.true
+
+pub returns-then-id-lt1 : goal.returns-then-id-lt1
+returns-then-id-lt1 c = before-ids _ _ _ (omega (arith, c.if-state-gt30.false)) c.if-id-lt1.true
+
+pub returns-then-id-gt14 : goal.returns-then-id-gt14
+returns-then-id-gt14 c = past-ids _ _ _ (omega (arith, c.if-state-gt30.false)) (omega (arith, c.if-id-lt1.false)) c.if-id-gt14.true
+
+pub returns : goal.returns
+returns-then-state-gt30 c =
+    c.wide.ensures
+    ∙ at_entry c.args.table.now c.args.state c.args.id (omega (arith, c.if-state-gt30.false))
+    (omega (arith, c.if-id-lt1.false)) (omega (arith, c.if-id-gt14.false))

@@ -1,0 +1,8 @@
+-- By the edition's second byte.
+use borrow.Author.Rules.{rules}
+use Rattle.cdf_unit_prefix.specs.Layout.{marked}
+use Rattle.cdf_unit_prefix.proofs.is_mark.Goals as goal
+
+pub returns : goal.returns
+unfolding marked
+returns c = rw c.second_mark-second.ensures
