@@ -1,5 +1,7 @@
 // A whole person in one request (02, j): a lent list of unit requests is built, or nothing is. Both functions have the list, a slice of
 // structs, and are proved by walks of their code; what they call is not.
+#![tactic(auto)]
+
 ghost use Rattle.std.specs.Prelude.{◌≡◌};
 ghost use Rattle.cdf_unit_prefix.specs.Layout.{layout_of};
 ghost use Rattle.cdf_unit_prefix.specs.declared.Edition.TheVariants.{First};

@@ -1,4 +1,6 @@
 // What is done with one request of a list, and before and behind its two passes: all that the loop over the list calls.
+#![tactic(auto)]
+
 ghost use Rattle.std.specs.Prelude.{◌≡◌, cond, [], ◌%◌, eqb, ltb};
 ghost use Rattle.cdf_unit_prefix.specs.Layout.{layout_of};
 ghost use Rattle.cdf_unit_prefix.specs.declared.Edition.TheVariants.{First};
@@ -21,7 +23,7 @@ use cdf_unit_table::{action_allowed, first_state, is_known};
 // The ten numbers of a builder's place: the bytes written; how many units are open; state and start of the innermost, then of the
 // others from the root inwards.
 #[repr(C)]
-#[derive(Drop)]
+#[derive(Clone, Copy)]
 pub struct PlaceNumbers {
     pub written: usize,
     pub count: usize,
@@ -37,7 +39,7 @@ pub struct PlaceNumbers {
 
 // What a list is told: the number, the rank of the request that it is of, and the new place.
 #[repr(C)]
-#[derive(Drop)]
+#[derive(Clone, Copy)]
 pub struct Batched {
     pub number: usize,
     pub rank: usize,
@@ -45,7 +47,7 @@ pub struct Batched {
 }
 
 // Where a pass over the list stands: whether it writes, the number of the first request that was refused with its rank, and the place.
-#[derive(Drop)]
+#[derive(Clone, Copy)]
 pub struct Ran {
     pub writing: bool,
     pub number: usize,

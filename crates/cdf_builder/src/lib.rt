@@ -1,4 +1,6 @@
 // The builder: a place goes in with each call and a new one comes back; the buffer is lent.
+#![tactic(auto)]
+
 ghost use Rattle.std.specs.Prelude.{◌≡◌, length};
 ghost use Rattle.cdf_unit_prefix.specs.Layout.{layout_of};
 ghost use Rattle.cdf_unit_prefix.specs.declared.Edition.TheVariants.{First};
@@ -16,7 +18,7 @@ use cdf_unit_prefix::Edition;
 
 // Where a builder is: how many bytes are written; how many units are open, `top` the innermost of them and `o1` to `o3` those around
 // it, from the outermost inwards. Which place of the format this is, its view says: units that the count does not reach do not matter.
-#[derive(Drop)]
+#[derive(Clone, Copy)]
 pub struct Builder {
     pub written: usize,
     pub count: usize,
@@ -27,14 +29,14 @@ pub struct Builder {
 }
 
 // What a call answers: the number and the new place.
-#[derive(Drop)]
+#[derive(Clone, Copy)]
 pub struct Built {
     pub number: usize,
     pub place: Builder,
 }
 
 // What FINISH answers: the number and, beside 0, the stream's length.
-#[derive(Drop)]
+#[derive(Clone, Copy)]
 pub struct Finished {
     pub number: usize,
     pub length: usize,

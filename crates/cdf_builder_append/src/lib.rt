@@ -1,4 +1,6 @@
 // What the builder writes: a unit or a group, and the lengths of the open units.
+#![tactic(auto)]
+
 ghost use Rattle.std.specs.Prelude.{◌≡◌, [], ◌+◌, ◌-◌, drop};
 ghost use Rattle.cdf_unit_prefix.specs.Layout.{layout_of};
 ghost use Rattle.cdf_grammar.specs.Encoding.{bytes_of, unit_bytes};

@@ -1,4 +1,6 @@
 // START, NEXT and ADD_STREAM for streams of either edition: what is decided, and where that is 0, the bytes.
+#![tactic(auto)]
+
 ghost use Rattle.std.specs.Prelude.{◌≡◌};
 ghost use Rattle.cdf_unit_prefix.specs.Layout.{layout_of};
 ghost use Rattle.cdf_builder_spec.specs.Requests.{unit, group};

@@ -19,6 +19,8 @@
 //
 // A proved loop has to end, and nothing says that the input does. So each loop over the input counts its turns down, from a number
 // that no run uses up.
+#![tactic(auto)]
+
 mod input;
 mod output;
 
@@ -29,7 +31,7 @@ use cdf_builder_spec::Begun;
 use libc::STDOUT_FILENO;
 
 // What a line did: whether it could be read, and the place then.
-#[derive(Drop)]
+#[derive(Clone, Copy)]
 struct Step {
     good: bool,
     place: Builder,

@@ -1,4 +1,6 @@
 // Copies lent bytes to the front of a lent tail, by eights where there are eight, and by fours where there are four.
+#![tactic(auto)]
+
 ghost use Rattle.std.specs.Prelude.{◌≡◌, ◌++◌, ◌≤◌, length, take, drop};
 ghost use Rattle.cdf_builder_copy.specs.Onto.{onto};
 

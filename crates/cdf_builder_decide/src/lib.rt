@@ -1,4 +1,6 @@
 // What the builder decides before it writes: whether a request is right where it stands, and the place then.
+#![tactic(auto)]
+
 ghost use Rattle.std.specs.Prelude.{◌≡◌, ◌+◌};
 ghost use Rattle.cdf_unit_prefix.specs.Layout.{layout_of};
 ghost use Rattle.cdf_builder_spec.specs.Requests.{unit, group, joining, join_number, advanced};
@@ -15,7 +17,7 @@ use cdf_unit_prefix::{Edition, prefix};
 use cdf_unit_table::{first_state, is_known};
 
 // What is decided: the number, and the place then.
-#[derive(Drop)]
+#[derive(Clone, Copy)]
 pub struct Decided {
     pub number: usize,
     pub place: Parts,

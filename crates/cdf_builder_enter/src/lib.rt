@@ -1,4 +1,6 @@
 // The builder's place with a unit more, by its parts.
+#![tactic(auto)]
+
 ghost use Rattle.std.specs.Prelude.{◌≡◌};
 ghost use Rattle.cdf_builder_enter.specs.Entering.{entered_by};
 

@@ -1,7 +1,7 @@
 -- What is wrong with a unit that is given, by the judgement of its body; and when a group is accepted.
 use Prim.Native.Nat.{ℕ, ◌-◌, ◌<◌}
 use mathlib.Core.Path.{◌≡◌, refl, ◌∙◌}
-use mathlib.Core.Bool.{Bool, true, false, cond, not, ◌||◌, or-true, and_false}
+use mathlib.Core.Bool.{Bool, true, false, cond, not, ◌||◌, or-true, and-false}
 use mathlib.Core.List.{List}
 use native.Mathlib.Omega.{arith}
 use borrow.Author.Tests.{eq-eqb, ne_eqb}
@@ -70,7 +70,7 @@ module _ (id action : ℕ) (text : List ℕ) where
 module _ (l : Layout) (g : List ℕ) where
   pub group-other : is_group (id_at l g) ≡ false → group_id l g ≡ 0
   unfolding group_id accepted_group
-  group-other e = rw (e, and_false)
+  group-other e = rw (e, and-false)
 
   -- Bytes too few for a prefix are no group.
   pub group-short : length g < prefix_of l → group_id l g ≡ 0

@@ -1,4 +1,6 @@
 // What the builder asks of a unit or a group by itself before it writes: what is wrong with it, and whether there is room.
+#![tactic(auto)]
+
 ghost use Rattle.std.specs.Prelude.{◌≡◌};
 ghost use Rattle.cdf_unit_prefix.specs.Layout.{layout_of};
 ghost use Rattle.cdf_builder_spec.specs.Calls.{room};

@@ -1,4 +1,6 @@
 // Whether a builder's place could belong to a buffer.
+#![tactic(auto)]
+
 ghost use Rattle.std.specs.Prelude.{◌≡◌};
 ghost use Rattle.cdf_unit_prefix.specs.Layout.{layout_of};
 ghost use Rattle.cdf_builder_spec.specs.Place.{fits};

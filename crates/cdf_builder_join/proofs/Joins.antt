@@ -1,7 +1,7 @@
 -- Looking for the innermost open unit that admits an id, turn by turn, and asking of each whether it is complete.
 use Prim.Native.Nat.{ℕ, zero, suc, ◌-◌, ◌≤◌, ◌<◌}
 use mathlib.Core.Path.{◌≡◌, refl, ap, ◌∙◌}
-use mathlib.Core.Bool.{Bool, true, false, cond, not, ◌&&◌, and_assoc, and_true}
+use mathlib.Core.Bool.{Bool, true, false, cond, not, ◌&&◌, and_assoc, and-true}
 use mathlib.Core.List.{List, [], ◌∷◌}
 use native.Mathlib.Omega.{arith}
 use borrow.Author.Tests.{eq-eqb, ne_eqb}
@@ -49,7 +49,7 @@ module _ (id : ℕ) (before : List Begun) (o1 o2 o3 : Begun) where
       let first = units-first o1 o2 o3 left inner rest some refl in
       let w = joins_over [] inner (units (left - 1) rest o1 o2 o3) id (record {}) (λ z. other (is ∙ z)) in
       let here = g.same ∙ ap (joining id) first ∙ w.0 in (
-        rw (here, g.ends, first, w.1, and_true, ne_eqb (length (inner ∷ units (left - 1) rest o1 o2 o3)) 0 (λ z. omega arith)),
+        rw (here, g.ends, first, w.1, and-true, ne_eqb (length (inner ∷ units (left - 1) rest o1 o2 o3)) 0 (λ z. omega arith)),
         units-first o1 o2 o3 left _ rest some refl ∙ rw (here, is),
       )
 

@@ -1,5 +1,7 @@
 // What the builder asks before it writes: where a unit or a group joins, and whether all open units are complete.
 // A place is taken by its parts, which the builder's struct holds.
+#![tactic(auto)]
+
 ghost use Rattle.std.specs.Prelude.{◌≡◌};
 ghost use Rattle.cdf_builder_spec.specs.Requests.{joining, completed, join_number, advanced};
 ghost use Rattle.cdf_builder_spec.specs.Slots.{no_begun, units};
@@ -10,7 +12,7 @@ use cdf_unit_table::{is_complete, state_after};
 
 // Where a unit joins: 0, or the number of the rule that is broken; and the units then left open, so many, with `top` the innermost,
 // which has had the unit.
-#[derive(Drop)]
+#[derive(Clone, Copy)]
 pub struct Joined {
     pub number: usize,
     pub count: usize,

@@ -1,5 +1,7 @@
 // The builder's NEXT for programs in C, apart from its other calls: in its archive each function that it needs is called once, and so
 // becomes a part of it.
+#![tactic(auto)]
+
 ghost use Rattle.std.specs.Prelude.{◌≡◌};
 ghost use Rattle.cdf_builder_spec.specs.Requests.{unit};
 ghost use Rattle.cdf_builder_numbers.specs.Numbers.{reply_from, call_from};

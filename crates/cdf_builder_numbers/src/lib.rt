@@ -1,4 +1,6 @@
 // The numbers that a builder's place is in C: read, written, and stored where a call is done.
+#![tactic(auto)]
+
 ghost use Rattle.std.specs.Prelude.{◌≡◌, cond, eqb};
 ghost use Rattle.cdf_builder_numbers.specs.Numbers.{builder_from, numbers_of};
 

@@ -1,4 +1,6 @@
 // The builder's writes into a lent buffer. Where there is no room for all the bytes, nothing is written.
+#![tactic(auto)]
+
 ghost use Rattle.std.specs.Prelude.{◌≡◌, [], ◌++◌, ◌+◌, ◌≤◌, leb, length, drop};
 ghost use Rattle.cdf_unit_prefix.specs.Layout.{layout_of, prefix_of};
 ghost use Rattle.cdf_grammar.specs.Encoding.{bytes_of, prefix_bytes, unit_bytes};

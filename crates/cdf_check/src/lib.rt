@@ -1,4 +1,6 @@
 // The recursive check of a stream, and of a unit one level down.
+#![tactic(auto)]
+
 ghost use Rattle.std.specs.Prelude.{◌≡◌, Bool, ◌↔◌, ℕ, ◌+◌, ◌≤◌, length};
 ghost use Rattle.cdf_unit_prefix.specs.Layout.{layout_of, layout_for};
 ghost use Rattle.cdf_unit_data.specs.Standing.{name_row};
@@ -16,7 +18,7 @@ use cdf_unit_prefix::{Edition, Header, edition_of, head, prefix};
 use cdf_unit_table::{first_state, is_complete, state_after};
 
 // What the check found: the number of units of a right stream, or the first fault's number and offset.
-#[derive(Drop)]
+#[derive(Clone, Copy)]
 pub enum Checked {
     Accepted(usize),
     Refused { number: usize, offset: usize },

@@ -1,4 +1,6 @@
 // The check for programs in C.
+#![tactic(auto)]
+
 ghost use Rattle.std.specs.Prelude.{◌≡◌, [], ◌∷◌};
 ghost use Rattle.cdf_unit_prefix.specs.Layout.{layout_for};
 ghost use Rattle.cdf_unit_list.specs.Check.{check_of};

@@ -7,6 +7,8 @@
 //
 // A proved loop has to end, and nothing says that the input does. So each loop counts its turns
 // down, from a number that no run uses up.
+#![tactic(auto)]
+
 ghost use Rattle.std.specs.Prelude.{◌≤◌, ◌<◌, length};
 
 use cdf_check::Checked;

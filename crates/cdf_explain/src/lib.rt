@@ -1,4 +1,6 @@
 // Why a stream is refused: where the refused unit stands, and what could have stood there.
+#![tactic(auto)]
+
 ghost use Rattle.std.specs.Prelude.{◌≤◌, ◌≡◌};
 ghost use Rattle.cdf_unit_prefix.specs.Layout.{layout_for};
 ghost use Rattle.cdf_reader_spec.specs.Slots.{open_units};
@@ -18,7 +20,7 @@ use cdf_unit_table::{IDS_END, STREAM, is_root_kind, state_after};
 // What is told of a stream. The number and the offset are the check's, 0 and 0 for an accepted one. Then how many units are open where
 // the refused unit stands, id and start of each, the root first; and how many ids the innermost of them admits there, and these, rising.
 // Entries that are not used are 0.
-#[derive(Drop)]
+#[derive(Clone, Copy)]
 pub struct Explained {
     pub number: usize,
     pub offset: usize,
@@ -30,7 +32,7 @@ pub struct Explained {
 }
 
 // So many ids, rising, and zeros behind them.
-#[derive(Drop)]
+#[derive(Clone, Copy)]
 struct Choices {
     count: usize,
     ids: [usize; 14],

@@ -1,4 +1,6 @@
 // Why a stream is refused, for programs in C.
+#![tactic(auto)]
+
 ghost use Rattle.std.specs.Prelude.{◌≡◌};
 ghost use Rattle.cdf_unit_prefix.specs.Layout.{layout_for};
 ghost use Rattle.cdf_explain_spec.specs.Why.{why_of};

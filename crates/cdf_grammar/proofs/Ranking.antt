@@ -1,6 +1,6 @@
 -- The units of trees stand in their list as in the trees, by the law of ranks.
 use mathlib.Core.Path.{◌≡◌, refl, sym, ap, subst}
-use mathlib.Core.Bool.{Bool, true, false, and_false}
+use mathlib.Core.Bool.{Bool, true, false, and-false}
 use mathlib.Core.List.{List, [], ◌∷◌, ◌++◌, map, map-append, append-nil, reverse_aux, reverse_aux-append}
 use Prim.Native.Nat.{ℕ, suc, ◌+◌, ◌≤◌, ◌<◌}
 use native.Mathlib.Omega.{arith}
@@ -52,7 +52,7 @@ opens_later u us p e h = rw (e, lt-ltb p u.end h)
 
 ends_before : (u : Unit) (us : List Unit) (p : ℕ) → u.end ≤ p → open_at p (u ∷ us) ≡ open_at p us
 unfolding open_at parents_that
-ends_before u us p h = rw (le-ltb p u.end h, and_false)
+ends_before u us p h = rw (le-ltb p u.end h, and-false)
 
 module _ (l : Layout) where
   -- Behind trees none of their units is open.

@@ -1,4 +1,6 @@
 // The listing of a stream as text, written into a lent buffer.
+#![tactic(auto)]
+
 ghost use Rattle.std.specs.Prelude.{◌≡◌, leb, length};
 ghost use Rattle.cdf_unit_prefix.specs.Layout.{layout_of};
 ghost use Rattle.cdf_unit_prefix.specs.declared.Edition.TheVariants.{First};
@@ -13,7 +15,7 @@ use cdf_unit_own::row::NAME_BYTES;
 use cdf_unit_prefix::Edition;
 
 // 0 and how many bytes were written, or 12 and none.
-#[derive(Drop)]
+#[derive(Clone, Copy)]
 pub struct Written {
     pub number: usize,
     pub length: usize,

@@ -1,4 +1,6 @@
 // The lines of a listing, put into a lent buffer.
+#![tactic(auto)]
+
 ghost use Rattle.std.specs.Prelude.{◌<◌, [], ◌∷◌, ◌++◌};
 ghost use Rattle.cdf_listing_spec.specs.Decimal.{digit, decimal};
 ghost use Rattle.cdf_listing_spec.specs.Text.{number, columns, ok_line, refused_line};

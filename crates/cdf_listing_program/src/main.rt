@@ -1,5 +1,7 @@
 // Lists the stream that its input holds: a line for each unit and `ok N`, or `refused N at OFFSET`. It judges the first 65,536 bytes
 // of standard input, by the first edition: no stream of that edition is longer than 65,535.
+#![tactic(auto)]
+
 ghost use Rattle.std.specs.Prelude.{◌≤◌, ◌≡◌, length, take};
 ghost use Rattle.cdf_unit_prefix.specs.Layout.{layout_of};
 ghost use Rattle.cdf_unit_prefix.specs.declared.Edition.TheVariants.{First};

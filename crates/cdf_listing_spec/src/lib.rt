@@ -1,1 +1,2 @@
 // The text of the listing program, in specs/, and laws on it. There is no code here.
+#![tactic(auto)]

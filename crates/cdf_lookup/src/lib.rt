@@ -1,4 +1,6 @@
 // Which of two values counts: the value of a field, by its template's name and first key, in the first of two streams that has it.
+#![tactic(auto)]
+
 ghost use Rattle.std.specs.Prelude.{◌+◌, ◌≤◌, ◌≡◌, length};
 ghost use Rattle.cdf_unit_prefix.specs.Layout.{layout_for};
 ghost use Rattle.cdf_unit_list.specs.Units.{listing};

@@ -1,4 +1,6 @@
 // Which of two values counts, for programs in C.
+#![tactic(auto)]
+
 ghost use Rattle.std.specs.Prelude.{◌≡◌};
 ghost use Rattle.cdf_lookup.specs.Answers.{due};
 ghost use Rattle.cdf_lookup_c.specs.Answer.{answer_of};

@@ -1,4 +1,6 @@
 // The walk of the lookup: what one pass over the units of a stream tells and finds.
+#![tactic(auto)]
+
 ghost use Rattle.std.specs.Prelude.{◌+◌, ◌≤◌, ◌≡◌, length};
 ghost use Rattle.std.proofs.Math.Option.{some};
 ghost use Rattle.cdf_unit_prefix.specs.Layout.{layout_of, layout_for, prefix_of};
@@ -17,7 +19,7 @@ use cdf_unit_table::{ER_GROUP, FIELD, TEMPLATE};
 
 // What a walk over a stream tells: the check's number and its offset, 0 and 0 for an accepted one; whether the root is an E/R group; and where
 // the value stands.
-#[derive(Drop)]
+#[derive(Clone, Copy)]
 pub struct Walked {
     pub number: usize,
     pub offset: usize,

@@ -1,5 +1,7 @@
 // The reader: a place goes in with each call and a new one comes back. What a call does stands in the crates below, on the parts of
 // a place; here are the calls by their names.
+#![tactic(auto)]
+
 ghost use Rattle.std.specs.Prelude.{◌≡◌, ◌+◌};
 ghost use Rattle.cdf_unit_prefix.specs.Layout.{layout_of, layout_for};
 ghost use Rattle.cdf_reader_spec.specs.Calls.{first_of, next_of, skip_of, take_of, previous_of, abnormal_end, call_of};
@@ -23,7 +25,7 @@ use cdf_unit_prefix::{Edition, edition_of};
 // Where a reader is: the position; how many units are open, `top` the innermost of them and `o1` to `o3` those around it, from the
 // outermost inwards; the last unit handed out, and whether that one may still be skipped; the ranks of all these. Which place of the
 // format this is, its view says: units that the count does not reach do not matter.
-#[derive(Drop)]
+#[derive(Clone, Copy)]
 pub struct Place {
     pub position: usize,
     pub count: usize,
@@ -37,7 +39,7 @@ pub struct Place {
 }
 
 // What a call answers: the number and its offset, the unit handed out with its depth and rank (zeros where none is) and the new place.
-#[derive(Drop)]
+#[derive(Clone, Copy)]
 pub struct Answer {
     pub number: usize,
     pub offset: usize,

@@ -1,5 +1,7 @@
 // A step at any cursor, as it is defined, and its tests and ranks: what NEXT does, without the test whether the place fits; where it cannot be
 // done, a number of its own. The step itself stands in `cdf_reader_advance_by`.
+#![tactic(auto)]
+
 ghost use Rattle.std.specs.Prelude.{◌≡◌, cond, ◌&&◌, suc, leb, ltb};
 ghost use Rattle.cdf_unit_table.specs.States.{opens};
 ghost use Rattle.cdf_reader_advance.specs.Advancing.{is_inside};

@@ -1,5 +1,7 @@
 // A step at any cursor by a lent row of name bytes: what NEXT does, without the test whether the place fits; where it cannot be done, a number
 // of its own.
+#![tactic(auto)]
+
 ghost use Rattle.std.specs.Prelude.{◌≡◌};
 ghost use Rattle.cdf_unit_prefix.specs.Layout.{layout_of};
 ghost use Rattle.cdf_unit_data.specs.Standing.{row_bytes};

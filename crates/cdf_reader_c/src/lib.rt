@@ -1,4 +1,6 @@
 // The reader's single calls for programs in C, but NEXT, which has an archive of its own.
+#![tactic(auto)]
+
 ghost use Rattle.std.specs.Prelude.{◌≡◌};
 ghost use Rattle.cdf_reader_spec.specs.Calls.{no_part, abnormal_end};
 ghost use Rattle.cdf_reader_spec.specs.declared.Call.TheVariants.{Start, Skip, GetStream, Previous};

@@ -1,4 +1,6 @@
 // The reader's calls on plain numbers, as they cross to C: a place is 25 of them and an answer 10.
+#![tactic(auto)]
+
 ghost use Rattle.std.specs.Prelude.{◌≡◌, true, ◌≤◌};
 ghost use Rattle.cdf_reader.specs.View.{reply_of};
 ghost use Rattle.cdf_reader_numbers.specs.Numbers.{answer_numbers, keeps, Called};
@@ -9,7 +11,7 @@ use cdf_reader_numbers::{place_from, write_place};
 use cdf_reader_spec::Call;
 
 // A part of the stream.
-#[derive(Drop)]
+#[derive(Clone, Copy)]
 struct Span {
     start: usize,
     size: usize,

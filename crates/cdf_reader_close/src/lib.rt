@@ -1,5 +1,7 @@
 // Closing the open units that end at a position. The units are taken by their parts: how many are open, `top` the innermost, and
 // `o1` to `o3` those around it, from the outermost inwards.
+#![tactic(auto)]
+
 ghost use Rattle.std.specs.Prelude.{◌≡◌};
 ghost use Rattle.cdf_reader_spec.specs.Slots.{no_open, no_ranks, open_units};
 ghost use Rattle.cdf_reader_spec.specs.Closing.{unclosed};
@@ -11,7 +13,7 @@ use cdf_unit_list::Open;
 use cdf_unit_table::is_complete;
 
 // The open units that closing leaves: how many, and the innermost.
-#[derive(Drop)]
+#[derive(Clone, Copy)]
 pub struct Left {
     pub count: usize,
     pub top: Open,

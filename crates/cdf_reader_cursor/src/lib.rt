@@ -1,5 +1,7 @@
 // Where a reader is, and the answers that its calls give once it is known what they do. A method stands in the crate of its struct,
 // and the reader's calls are methods of its place; so what they are made of works on a cursor, which has the same parts.
+#![tactic(auto)]
+
 ghost use Rattle.std.specs.Prelude.{◌≡◌};
 ghost use Rattle.cdf_unit_prefix.specs.Layout.{layout_of};
 ghost use Rattle.cdf_reader_spec.specs.Calls.{no_unit, no_ranked, move_to, passed, first_of};
@@ -13,7 +15,7 @@ use cdf_unit_prefix::Edition;
 use cdf_unit_table::skipped_state;
 
 // The parts of a reader's place.
-#[derive(Drop)]
+#[derive(Clone, Copy)]
 pub struct Cursor {
     pub position: usize,
     pub count: usize,
@@ -27,7 +29,7 @@ pub struct Cursor {
 }
 
 // What a call answers, with the cursor that it leads to.
-#[derive(Drop)]
+#[derive(Clone, Copy)]
 pub struct Outcome {
     pub number: usize,
     pub offset: usize,

@@ -1,4 +1,6 @@
 // Entering a unit at a cursor: the answer to a call that hands it out.
+#![tactic(auto)]
+
 ghost use Rattle.std.specs.Prelude.{◌≡◌};
 ghost use Rattle.cdf_reader_cursor.specs.Outcomes.{handing};
 ghost use Rattle.cdf_reader_cursor.specs.Entering.{inside, entering};

@@ -1,7 +1,7 @@
 -- The open units that a struct holds, tested from the outermost inwards.
 use Prim.Native.Nat.{ℕ, zero, suc, ◌+◌, ◌≤◌, ◌<◌}
 use mathlib.Core.Path.{◌≡◌, refl, sym}
-use mathlib.Core.Bool.{Bool, true, false, and_false, and_true}
+use mathlib.Core.Bool.{Bool, true, false, and-false, and-true}
 use mathlib.Core.List.{List, ◌∷◌}
 use native.Mathlib.Omega.{arith}
 use native.Mathlib.Decide.{dec_lt}
@@ -19,7 +19,7 @@ module _ (l : Layout) (n : ℕ) (top o1 o2 o3 : Open) where
   -- What fails from a level outwards fails with one more unit inside it.
   wider : (x : Open) (k : ℕ) → chain l n (from (suc k)) ≡ false → chain l n (x ∷ from (suc k)) ≡ false
   unfolding chain around
-  wider x k e = rw (e, and_false)
+  wider x k e = rw (e, and-false)
 
   fails-in : (k j : ℕ) → k ≤ j → chain l n (from (suc k)) ≡ false → chain l n (from (suc j)) ≡ false
   unfolding around
@@ -46,7 +46,7 @@ module _ (l : Layout) (n : ℕ) (top o1 o2 o3 : Open) where
   -- There is no room for a fifth unit: one of zeros does not lie in another.
   pub no-fifth : chain l n (from 4) ≡ false
   unfolding chain around
-  no-fifth = rw (lt-leb (o3.start + prefix_of l) 0 (omega arith)) (simp and_false)
+  no-fifth = rw (lt-leb (o3.start + prefix_of l) 0 (omega arith)) (simp and-false)
 
 -- The returns of the code, in its order: `one` is that the outermost of several units holds, `two` and `three` those inside it.
 module _ (l : Layout) (n count : ℕ) (top o1 o2 o3 : Open) where
@@ -67,7 +67,7 @@ module _ (l : Layout) (n count : ℕ) (top o1 o2 o3 : Open) where
   module _ (one : spans n o1 ≡ true) where
     pub double : count ≡ 2 → under l o1 top ≡ Chain
     unfolding chain around open_units
-    double e = rw (e, one, and_true)
+    double e = rw (e, one, and-true)
 
     pub second-not : (count ≡ 1 → ⊥) → (count ≡ 2 → ⊥) → under l o1 o2 ≡ false → false ≡ Chain
     unfolding chain around
@@ -76,7 +76,7 @@ module _ (l : Layout) (n count : ℕ) (top o1 o2 o3 : Open) where
     module _ (two : under l o1 o2 ≡ true) where
       pub triple : count ≡ 3 → under l o2 top ≡ Chain
       unfolding chain around open_units
-      triple e = rw (e, two, one, and_true)
+      triple e = rw (e, two, one, and-true)
 
       pub third-not : (count ≡ 1 → ⊥) → (count ≡ 2 → ⊥) → (count ≡ 3 → ⊥) → under l o2 o3 ≡ false → false ≡ Chain
       unfolding chain around
@@ -84,4 +84,4 @@ module _ (l : Layout) (n count : ℕ) (top o1 o2 o3 : Open) where
 
       pub fourfold : under l o2 o3 ≡ true → count ≡ 4 → under l o3 top ≡ Chain
       unfolding chain around open_units
-      fourfold three e = rw (e, three, two, one, and_true)
+      fourfold three e = rw (e, three, two, one, and-true)

@@ -1,7 +1,7 @@
 -- The ranks that a struct holds, tested from the innermost outwards, against a quotient.
 use Prim.Native.Nat.{ℕ, zero, suc, ◌*◌, ◌/◌}
 use mathlib.Core.Path.{◌≡◌, refl, sym}
-use mathlib.Core.Bool.{Bool, true, false, ◌&&◌, ◌||◌, and_true}
+use mathlib.Core.Bool.{Bool, true, false, ◌&&◌, ◌||◌, and-true}
 use mathlib.Core.List.{◌∷◌}
 use native.Mathlib.Omega.{arith}
 use borrow.Author.Tests.{le-leb, lt-leb, le-ltb, leb-true, leb-false, ne_eqb}
@@ -30,7 +30,7 @@ by_quotient Second k position = go (leb k (position / 8)) refl
 module _ (f : ℕ → Bool) (none : f 0 ≡ true) (top r1 r2 r3 : ℕ) where
   full : (k : ℕ) → (f r3 && (f r2 && f r1)) ≡ every f (around_of 0 r1 r2 r3 (suc (suc (suc k))))
   unfolding every around_of
-  full zero = rw and_true
+  full zero = rw and-true
   full (suc k) =
       let n = suc (suc (suc (suc k))) in
       rw (ne_eqb n 1 (λ e. omega arith), ne_eqb n 2 (λ e. omega arith), ne_eqb n 3 (λ e. omega arith), none) (full k)
@@ -41,8 +41,8 @@ module _ (f : ℕ → Bool) (none : f 0 ≡ true) (top r1 r2 r3 : ℕ) where
   unfolding every around_of held_of
   by_count zero = refl
   by_count (suc zero) = refl
-  by_count (suc (suc zero)) = rw and_true
-  by_count (suc (suc (suc zero))) = rw and_true
+  by_count (suc (suc zero)) = rw and-true
+  by_count (suc (suc (suc zero))) = rw and-true
   by_count (suc (suc (suc (suc k)))) =
       let n = suc (suc (suc (suc k))) in
       rw (le-ltb n 1 (omega arith), le-ltb n 4 (omega arith), le-ltb n 3 (omega arith), le-ltb n 2 (omega arith), full k)

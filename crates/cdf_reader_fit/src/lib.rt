@@ -1,4 +1,6 @@
 // Whether a reader's place could belong to some bytes. The place is taken by its parts, which the reader's struct holds.
+#![tactic(auto)]
+
 ghost use Rattle.std.specs.Prelude.{◌≡◌, ◌∷◌, ◌*◌, ◌/◌, leb};
 ghost use Rattle.cdf_unit_prefix.specs.Layout.{layout_of, prefix_of};
 ghost use Rattle.cdf_reader_spec.specs.Place.{every, fits};

@@ -1,4 +1,6 @@
 // Whether a place could belong to some bytes, straight on the numbers that cross to C: only those are read that the count reaches.
+#![tactic(auto)]
+
 ghost use Rattle.std.specs.Prelude.{◌≡◌};
 ghost use Rattle.cdf_unit_prefix.specs.Layout.{layout_of};
 ghost use Rattle.cdf_reader_spec.specs.Place.{fits};

@@ -1,7 +1,7 @@
 -- The kinds of two to four open units, by the ranges of their states.
 use Prim.Native.Nat.{ℕ, ◌≤◌, ◌<◌}
 use mathlib.Core.Path.{◌≡◌, refl, sym, ◌∙◌}
-use mathlib.Core.Bool.{Bool, true, false, cond, ◌&&◌, and_false, and_true}
+use mathlib.Core.Bool.{Bool, true, false, cond, ◌&&◌, and-false, and-true}
 use native.Mathlib.Omega.{arith}
 use borrow.Author.Tests.{leb-true, le-leb, lt-leb}
 use lib.Dec.{leb}
@@ -24,7 +24,7 @@ below : (from to x : ℕ) → x < from → In from to x ≡ false
 below from to x h = rw (lt-leb from x h)
 
 above : (from to x : ℕ) → to < x → In from to x ≡ false
-above from to x h = rw (lt-leb x to h) (and_false (leb from x))
+above from to x h = rw (lt-leb x to h) (and-false (leb from x))
 
 abbrev stream : ℕ → Bool
 stream = In stream_new stream_skipped
@@ -56,13 +56,13 @@ pair a b = go (group a) refl (stream a) refl (relation a) refl
         (cond g (in_group b) (cond s (in_stream b) (cond r (entity b) false)) && root a) ≡ cond g (in_group b) (s && in_stream b)
     go true g s _ r _ =
         let h = bounds er_new er_skipped a g in
-        rw (lies stream_new file_skipped a (omega (arith, h)) (omega (arith, h))) (and_true (in_group b))
+        rw (lies stream_new file_skipped a (omega (arith, h)) (omega (arith, h))) (and-true (in_group b))
     go false _ true s r _ =
         let h = bounds stream_new stream_skipped a s in
-        rw (lies stream_new file_skipped a (omega (arith, h)) (omega (arith, h))) (and_true (in_stream b))
+        rw (lies stream_new file_skipped a (omega (arith, h)) (omega (arith, h))) (and-true (in_stream b))
     go false _ false _ true r =
         let h = bounds relation_new ordered_skipped a r in
-        rw (above stream_new file_skipped a (omega (arith, h))) (and_false (entity b))
+        rw (above stream_new file_skipped a (omega (arith, h))) (and-false (entity b))
     go false _ false _ false _ = refl
 
 swapped : (a b : Bool) → (a && (b && true)) ≡ (b && a)
@@ -89,7 +89,7 @@ triple a b c = go (group b) refl (stream b) refl (relation b) refl (group a) ref
         let h = bounds er_new er_skipped b g in
         let k = bounds er_new er_skipped a o in
         rw (below template_new ordered_skipped b (omega (arith, h)), above stream_new stream_skipped a (omega (arith, k)))
-        (and_false (in_group c))
+        (and-false (in_group c))
     go true g s _ r _ false _ =
         let h = bounds er_new er_skipped b g in
         rw (lies er_new call_skipped b (omega (arith, h)) (omega (arith, h))) (swapped (in_group c) (stream a))
@@ -98,10 +98,10 @@ triple a b c = go (group b) refl (stream b) refl (relation b) refl (group a) ref
         rw (
           sym e ∙ above stream_new stream_skipped b (omega (arith, h)),
           lies template_new ordered_skipped b (omega (arith, h)) (omega (arith, h)),
-        ) (and_true (entity c))
+        ) (and-true (entity c))
     go false _ true s false _ true _ =
         let h = bounds stream_new stream_skipped b s in
-        rw (below template_new ordered_skipped b (omega (arith, h))) (and_false (in_stream c))
+        rw (below template_new ordered_skipped b (omega (arith, h))) (and-false (in_stream c))
     go false _ false _ false _ true _ = refl
     go false _ true s r _ false _ =
         let h = bounds stream_new stream_skipped b s in
@@ -130,21 +130,21 @@ fourfold a b c d = go (group b) refl (group c) refl (stream c) refl (relation c)
         ) (swapped (entity d) (stream a))
     go true _ true k s _ false _ e _ =
         let h = bounds er_new er_skipped c k in
-        rw (below template_new ordered_skipped c (omega (arith, h))) (none (in_group d) (stream a) ∙ sym (and_false (stream a)))
+        rw (below template_new ordered_skipped c (omega (arith, h))) (none (in_group d) (stream a) ∙ sym (and-false (stream a)))
     go true _ false _ true s false _ e _ =
         let h = bounds stream_new stream_skipped c s in
-        rw (below template_new ordered_skipped c (omega (arith, h))) (none (in_stream d) (stream a) ∙ sym (and_false (stream a)))
-    go true _ false _ false _ false _ e _ = sym (and_false (stream a))
+        rw (below template_new ordered_skipped c (omega (arith, h))) (none (in_stream d) (stream a) ∙ sym (and-false (stream a)))
+    go true _ false _ false _ false _ e _ = sym (and-false (stream a))
     go false _ k x s y r z true e =
         let h = bounds entity_new entity_skipped c e in
         rw (
           sym x ∙ above er_new er_skipped c (omega (arith, h)),
           sym y ∙ above stream_new stream_skipped c (omega (arith, h)),
           sym z ∙ above relation_new ordered_skipped c (omega (arith, h)),
-        ) (sym (and_false (stream a)))
+        ) (sym (and-false (stream a)))
     go false _ k _ s _ r _ false _ =
-        rw (and_false (relation b), and_false (group a))
-        (and_false (cond k (in_group d) (cond s (in_stream d) (cond r (entity d) false))) ∙ sym (and_false (stream a)))
+        rw (and-false (relation b), and-false (group a))
+        (and-false (cond k (in_group d) (cond s (in_stream d) (cond r (entity d) false))) ∙ sym (and-false (stream a)))
 
 -- The same in the terms of the format.
 pub pair_is : (a b : ℕ) →

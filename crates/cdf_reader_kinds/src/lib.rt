@@ -1,5 +1,7 @@
 // Which states open units may have together, by how many units are open: the tests of kinds that the fit test of a whole place asks, each
 // in one function of few branches.
+#![tactic(auto)]
+
 ghost use Rattle.std.specs.Prelude.{◌≡◌, ◌&&◌};
 ghost use Rattle.cdf_reader_kinds.specs.Kinds.{may_root, may_hold};
 

@@ -1,4 +1,6 @@
 // The tests of a place's last unit: what the fit test of a whole place (cdf_reader_fit) asks.
+#![tactic(auto)]
+
 ghost use Rattle.std.specs.Prelude.{◌≡◌, not, ◌&&◌, ◌||◌, ◌+◌, leb};
 ghost use Rattle.cdf_unit_prefix.specs.Layout.{layout_of, prefix_of};
 ghost use Rattle.cdf_reader_spec.specs.Tests.{just_entered};

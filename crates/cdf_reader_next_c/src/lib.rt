@@ -1,5 +1,7 @@
 // NEXT for programs in C, straight on the numbers of the place. It stands in an archive without the other calls, so that the compiler makes
 // one function of all that it asks and does.
+#![tactic(auto)]
+
 ghost use Rattle.cdf_reader_spec.specs.declared.Call.TheVariants.{Next};
 ghost use Rattle.cdf_reader_numbers.specs.Numbers.{Called};
 

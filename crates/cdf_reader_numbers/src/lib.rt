@@ -1,4 +1,6 @@
 // A place as plain numbers, as they cross to C: 25 of them; an answer is 10, which `cdf_reader_call_numbers` writes.
+#![tactic(auto)]
+
 ghost use Rattle.std.specs.Prelude.{◌≡◌, cond};
 ghost use Rattle.cdf_reader_numbers.specs.Numbers.{place_from, numbers_of};
 

@@ -1,4 +1,6 @@
 // The tests of open units, of one or two at a time: what the fit test of a whole place (cdf_reader_fit) asks.
+#![tactic(auto)]
+
 ghost use Rattle.std.specs.Prelude.{◌≡◌, ◌+◌, leb};
 ghost use Rattle.cdf_unit_table.specs.States.{unit_of, root_kind, admits_kind};
 ghost use Rattle.cdf_unit_prefix.specs.Layout.{layout_of, prefix_of};

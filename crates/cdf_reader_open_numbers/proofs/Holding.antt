@@ -1,7 +1,7 @@
 -- What is asked of one to four open units: their kinds together, then where they lie, then their ranks.
 use Prim.Native.Nat.{ℕ, ◌+◌}
 use mathlib.Core.Path.{◌≡◌, refl, sym, ap, ◌∙◌}
-use mathlib.Core.Bool.{Bool, true, false, ◌&&◌, and_true}
+use mathlib.Core.Bool.{Bool, true, false, ◌&&◌, and-true}
 use lib.Dec.{leb, eqb}
 use Rattle.cdf_unit_table.specs.States.{unit_of, root_kind, admits_kind}
 use Rattle.cdf_unit_prefix.specs.Layout.{Layout, prefix_of}
@@ -44,7 +44,7 @@ module _ (l : Layout) (n most : ℕ) (p : Place) where
 
   pub one : (spans n p.top && low p.ranks.top) ≡ held l n most p 1
   unfolding held
-  one = sym (rw and_true)
+  one = sym (rw and-true)
 
   -- The kinds are tested first: where they are not right, nothing else is asked.
   abbrev Asked : ℕ → Bool → Bool → Type 0
@@ -65,7 +65,7 @@ module _ (l : Layout) (n most : ℕ) (p : Place) where
 
   pub two : Asked 2 kinds2 (lies2 && lows2)
   unfolding held
-  two = asked 2 kinds2 lies2 lows2 (rw (and_true (low p.ranks.r1)) (ap (λ b. b && lows2) (two_parted (kinds p.o1 p.top) root _ whole)))
+  two = asked 2 kinds2 lies2 lows2 (rw (and-true (low p.ranks.r1)) (ap (λ b. b && lows2) (two_parted (kinds p.o1 p.top) root _ whole)))
 
   abbrev kinds3 : Bool
   kinds3 = kinds p.o2 p.top && (kinds p.o1 p.o2 && root)
@@ -80,7 +80,7 @@ module _ (l : Layout) (n most : ℕ) (p : Place) where
   unfolding held
   three =
       asked 3 kinds3 lies3 lows3
-      (rw (and_true (low p.ranks.r1))
+      (rw (and-true (low p.ranks.r1))
       (ap (λ b. b && lows3) (three_parted (kinds p.o2 p.top) (kinds p.o1 p.o2) root _ _ whole)))
 
   abbrev kinds4 : Bool
@@ -96,7 +96,7 @@ module _ (l : Layout) (n most : ℕ) (p : Place) where
   unfolding held
   four =
       asked 4 kinds4 lies4 lows4
-      (rw (and_true (low p.ranks.r1))
+      (rw (and-true (low p.ranks.r1))
       (ap (λ b. b && lows4) (four_parted (kinds p.o3 p.top) (kinds p.o2 p.o3) (kinds p.o1 p.o2) root _ _ _ whole)))
 
   -- No other number of units holds.

@@ -1,4 +1,6 @@
 // Whether the open units of a place hold, one to four of them, straight on the numbers that cross to C.
+#![tactic(auto)]
+
 ghost use Rattle.std.specs.Prelude.{◌≡◌};
 ghost use Rattle.cdf_unit_prefix.specs.Layout.{Layout, layout_of};
 ghost use Rattle.cdf_reader_numbers.specs.Numbers.{place_from};

@@ -1,7 +1,7 @@
 -- A call answers as the plain reader does, and leaves a place that belongs to the plain reader's state.
 use Prim.Native.Nat.{ℕ, ◌≤◌}
 use mathlib.Core.Path.{◌≡◌, refl, sym, ap, ◌∙◌}
-use mathlib.Core.Bool.{Bool, true, false, not, cond, ◌&&◌, and_false, and_assoc, and_self, false≢true}
+use mathlib.Core.Bool.{Bool, true, false, not, cond, ◌&&◌, and-false, and_assoc, and_self, false≢true}
 use mathlib.Core.List.{List, [], ◌∷◌, ◌++◌, reverse_aux, cons≢nil}
 use native.Mathlib.Omega.{arith}
 use borrow.Author.Tests.{ne_eqb}
@@ -228,7 +228,7 @@ module _ (l : Layout) (s : List ℕ) (first : Ranked) (rest : List Ranked) (P : 
         where
           go : (f o g : Bool) → (g ≡ true → o ≡ true) → (f && o && g) ≡ (f && g)
           go true o true h = rw (h refl)
-          go true o false h = and_false o
+          go true o false h = and-false o
           go false o g h = refl
 
       -- GET_STREAM takes the unit's bytes as its part.

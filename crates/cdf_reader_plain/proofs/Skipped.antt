@@ -2,7 +2,7 @@
 -- is what it was where the unit was handed out.
 use Prim.Native.Nat.{ℕ, suc, ◌≤◌, ◌<◌}
 use mathlib.Core.Path.{◌≡◌, refl}
-use mathlib.Core.Bool.{Bool, true, false, cond, ◌&&◌, and_false}
+use mathlib.Core.Bool.{Bool, true, false, cond, ◌&&◌, and-false}
 use mathlib.Core.List.{List, [], ◌∷◌, ◌++◌, map}
 use native.Mathlib.Omega.{arith}
 use borrow.Author.Tests.{eq-eqb, ne_eqb, lt-ltb, le-ltb, le-leb}
@@ -78,8 +78,8 @@ module _ (u : Unit) (us : List Unit) (pos : ℕ) (past : u.start < pos) where
   -- At the end of u neither it nor a unit in it is open.
   open-same : (vs : List Unit) → Within pos u.end vs → open_at u.end (listed vs) ≡ open_at u.end us
   unfolding open_at parents_that
-  open-same [] w = rw (le-ltb u.end u.end (omega arith), and_false)
-  open-same (v ∷ vs) w = rw (le-ltb u.end v.end w.0.high, and_false) (open-same vs w.1)
+  open-same [] w = rw (le-ltb u.end u.end (omega arith), and-false)
+  open-same (v ∷ vs) w = rw (le-ltb u.end v.end w.0.high, and-false) (open-same vs w.1)
 
   -- All of them start before it.
   before-end : pos ≤ u.end → Before pos (u ∷ us) → (vs : List Unit) → Within pos u.end vs → Before u.end (listed vs)

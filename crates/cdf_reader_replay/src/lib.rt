@@ -1,5 +1,7 @@
 // A run of the reader's calls, by their codes, into a log. The loop keeps a cursor and tests no place: each that it holds is empty or was
 // returned with 0, and so fits.
+#![tactic(auto)]
+
 ghost use Rattle.std.specs.Prelude.{◌≡◌, [], ◌∷◌, ◌++◌, ◌*◌, ◌≤◌, length, drop};
 ghost use Rattle.cdf_unit_prefix.specs.Layout.{edition_of, layout_for};
 ghost use Rattle.cdf_unit_data.specs.Standing.{name_row};
@@ -19,7 +21,7 @@ use cdf_unit_own::row::NAME_BYTES;
 use cdf_unit_prefix::{Edition, edition_of};
 
 // What a replay answers: the number, and how many entries it has written.
-#[derive(Drop)]
+#[derive(Clone, Copy)]
 pub struct Logged {
     pub number: usize,
     pub count: usize,

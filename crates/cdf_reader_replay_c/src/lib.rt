@@ -1,4 +1,6 @@
 // A run of the reader's calls, for programs in C.
+#![tactic(auto)]
+
 ghost use Rattle.cdf_reader_replay_spec.specs.Replay.{Replayed};
 
 use cdf_reader_replay::replay;

@@ -1,4 +1,6 @@
 // What a code of a replay says: whether it is known, its call, and the part that goes with it.
+#![tactic(auto)]
+
 ghost use Rattle.std.specs.Prelude.{◌≡◌};
 ghost use Rattle.cdf_reader_numbers.specs.Taking.{part_by};
 ghost use Rattle.cdf_reader_replay_spec.specs.Replay.{known_code, call_by};
@@ -6,7 +8,7 @@ ghost use Rattle.cdf_reader_replay_spec.specs.Replay.{known_code, call_by};
 use cdf_reader_spec::Call;
 
 // A part of the stream.
-#[derive(Drop)]
+#[derive(Clone, Copy)]
 pub struct Span {
     pub start: usize,
     pub size: usize,

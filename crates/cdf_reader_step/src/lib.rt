@@ -1,4 +1,6 @@
 // NEXT at a cursor, and any call: 11, then 2, then what it does.
+#![tactic(auto)]
+
 ghost use Rattle.std.specs.Prelude.{◌≡◌, ◌||◌, ◌≤◌};
 ghost use Rattle.cdf_unit_prefix.specs.Layout.{layout_of};
 ghost use Rattle.cdf_reader_spec.specs.Place.{fits};

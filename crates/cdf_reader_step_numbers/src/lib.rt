@@ -1,5 +1,7 @@
 // A step straight on the numbers of a place, as they cross to C: what NEXT does, without the test whether the place fits. It writes what
 // changes.
+#![tactic(auto)]
+
 ghost use Rattle.std.specs.Prelude.{◌≡◌, [], ◌∷◌};
 ghost use Rattle.cdf_unit_prefix.specs.Layout.{layout_of};
 ghost use Rattle.cdf_reader_cursor.specs.Entering.{inside, entering};

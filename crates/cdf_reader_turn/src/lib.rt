@@ -1,5 +1,7 @@
 // What a step finds at any cursor, before anything is written: the judgement of a unit with its depth and rank, or a number. For calls that
 // write the new place by themselves.
+#![tactic(auto)]
+
 ghost use Rattle.std.specs.Prelude.{◌≡◌};
 ghost use Rattle.cdf_unit_prefix.specs.Layout.{layout_of};
 ghost use Rattle.cdf_reader_cursor.specs.Outcomes.{cursor_place, outcome_reply};
@@ -18,7 +20,7 @@ const NO_STEP: usize = 99;
 
 // What a step finds: a number that is not 0 with its offset; or the unit to be handed out, in the innermost of the `count` units left open, and
 // that one's next state.
-#[derive(Drop)]
+#[derive(Clone, Copy)]
 pub struct Reading {
     pub number: usize,
     pub offset: usize,

@@ -1,4 +1,6 @@
 // Many units in a call: NEXTs as long as the list has room, after one test of the place.
+#![tactic(auto)]
+
 ghost use Rattle.std.specs.Prelude.{◌≡◌, true, ◌+◌, ◌≤◌, length};
 ghost use Rattle.std.proofs.lemmas.List.Edits.{sets};
 ghost use Rattle.cdf_unit_prefix.specs.Layout.{edition_of, layout_for};
@@ -14,7 +16,7 @@ use cdf_unit_own::row::NAME_BYTES;
 use cdf_unit_prefix::{Edition, edition_of};
 
 // What the call answers beside the units in the list: the number and its offset, how many units there are, and the new place.
-#[derive(Drop)]
+#[derive(Clone, Copy)]
 pub struct Filled {
     pub number: usize,
     pub offset: usize,

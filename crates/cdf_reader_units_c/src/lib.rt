@@ -1,4 +1,6 @@
 // Many units in a call, for programs in C.
+#![tactic(auto)]
+
 ghost use Rattle.cdf_reader_units_c.specs.Batched.{Batched};
 
 use cdf_reader_numbers::{place_from, write_place};

@@ -1,4 +1,6 @@
 // What every call but a start asks first: whether it has something to do.
+#![tactic(auto)]
+
 ghost use Rattle.std.specs.Prelude.{◌≡◌};
 ghost use Rattle.cdf_reader_spec.specs.Calls.{is_start};
 ghost use Rattle.cdf_reader_use.specs.Uses.{may_pass, has_use};

@@ -1,5 +1,7 @@
 // A start and nexts to the end of a stream, each next given the place that the last call returned, folded into one number: what the
 // benchmark of the reader runs.
+#![tactic(auto)]
+
 ghost use Rattle.std.specs.Prelude.{◌≡◌};
 ghost use Rattle.cdf_unit_prefix.specs.Layout.{layout_for};
 ghost use Rattle.cdf_reader_walk.specs.Fold.{mix_of, mix_end, walk_of};

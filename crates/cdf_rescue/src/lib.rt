@@ -1,4 +1,6 @@
 // The rescue of a broken E/R group, from lent bytes into a lent buffer.
+#![tactic(auto)]
+
 ghost use Rattle.std.specs.Prelude.{◌≡◌, ◌≤◌, length, false};
 ghost use Rattle.cdf_unit_prefix.specs.Layout.{layout_of, prefix_of};
 ghost use Rattle.cdf_unit_prefix.specs.Rules.{head_of};
@@ -15,7 +17,7 @@ use cdf_unit_table::{ER_NEW, state_after};
 
 // What a rescue answers: the number; how many bytes the group has; how many runs were dropped, and of each the first byte and the byte
 // after its last. Entries that are not used are 0, and beside a number other than 0 all are.
-#[derive(Drop)]
+#[derive(Clone, Copy)]
 pub struct Report {
     pub number: usize,
     pub size: usize,
@@ -25,7 +27,7 @@ pub struct Report {
 }
 
 // What a scan found: more runs than there are entries; or how many bytes are kept, and the dropped runs.
-#[derive(Drop)]
+#[derive(Clone, Copy)]
 struct Found {
     many: bool,
     kept: usize,

@@ -1,4 +1,6 @@
 // The import desk: the entity keys of an E/R group resolved to the templates that they mean, in two passes over its units.
+#![tactic(auto)]
+
 ghost use Rattle.std.specs.Prelude.{◌≡◌, ◌+◌, true, length};
 ghost use Rattle.cdf_unit_prefix.specs.Layout.{layout_for, prefix_of};
 ghost use Rattle.cdf_unit_list.specs.Units.{listing};

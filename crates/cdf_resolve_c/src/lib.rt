@@ -1,4 +1,6 @@
 // The import desk, for programs in C.
+#![tactic(auto)]
+
 ghost use Rattle.std.specs.Prelude.{◌≡◌, length};
 ghost use Rattle.cdf_unit_prefix.specs.Layout.{layout_for};
 ghost use Rattle.cdf_resolve_spec.specs.Resolve.{resolved_of, list_after};

@@ -1,4 +1,6 @@
 // What the pass of the import desk keeps of what it meets, and how it tells a rank.
+#![tactic(auto)]
+
 ghost use Rattle.std.specs.Prelude.{◌≡◌, set};
 ghost use Rattle.cdf_resolve_spec.specs.Resolve.{refusal};
 ghost use Rattle.cdf_resolve_spec.specs.Pass.{doubled_at, lacking_at, told_by};

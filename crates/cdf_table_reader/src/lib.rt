@@ -1,5 +1,7 @@
 // The reader that is driven by a table. A place of either reader is one of the other; what may come next is asked of
 // the table.
+#![tactic(auto)]
+
 ghost use Rattle.std.specs.Prelude.{◌≡◌};
 ghost use Rattle.cdf_unit_prefix.specs.Layout.{layout_for};
 ghost use Rattle.cdf_reader.specs.View.{view, reply_of, no_place};
@@ -15,7 +17,7 @@ use cdf_unit_prefix::edition_of;
 mod table;
 
 // Where the reader is. What each open unit has had is a state of the table.
-#[derive(Drop)]
+#[derive(Clone, Copy)]
 pub struct TablePlace {
     pub place: Place,
 }

@@ -1,5 +1,7 @@
 // The calls of the reader that is driven by a table, for programs in C, on the numbers of the first reader's places and answers. Each leaves what that
 // one's call does.
+#![tactic(auto)]
+
 ghost use Rattle.std.specs.Prelude.{◌≡◌};
 ghost use Rattle.cdf_reader_spec.specs.Calls.{no_part};
 ghost use Rattle.cdf_reader_spec.specs.declared.Call.TheVariants.{Start, Next, Skip};

@@ -1,4 +1,6 @@
 // A start of the reader that is driven by a table: the root's rules, by row 0 of any table that is lent.
+#![tactic(auto)]
+
 ghost use Rattle.std.specs.Prelude.{◌≡◌};
 ghost use Rattle.cdf_unit_prefix.specs.Layout.{layout_of};
 ghost use Rattle.cdf_reader_cursor.specs.Outcomes.{outcome_reply, no_cursor};

@@ -1,4 +1,6 @@
 // The judgement of one unit by a table that is lent: what the table admits, then the rules that come after it.
+#![tactic(auto)]
+
 ghost use Rattle.std.specs.Prelude.{◌≡◌};
 ghost use Rattle.cdf_unit_prefix.specs.Layout.{layout_of};
 ghost use Rattle.cdf_table_reader_spec.specs.Table.{looked};

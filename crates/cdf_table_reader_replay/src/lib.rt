@@ -1,4 +1,6 @@
 // A run of the table reader's calls, by their codes, into a log. The table is made once for the run.
+#![tactic(auto)]
+
 ghost use Rattle.std.specs.Prelude.{◌≡◌, cond, [], ◌∷◌, ◌++◌, map, ◌*◌, ◌≤◌, eqb, length, drop};
 ghost use Rattle.cdf_unit_prefix.specs.Layout.{layout_of};
 ghost use Rattle.cdf_reader_spec.specs.Calls.{no_part};

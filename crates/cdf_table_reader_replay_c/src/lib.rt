@@ -1,4 +1,6 @@
 // A run of the table reader's calls, for programs in C.
+#![tactic(auto)]
+
 ghost use Rattle.cdf_table_reader_replay_spec.specs.Replay.{TableReplayed};
 
 use cdf_table_reader_replay::table_replay;

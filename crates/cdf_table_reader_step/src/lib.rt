@@ -1,5 +1,7 @@
 // The steps of the reader that is driven by a table: NEXT at a cursor, by any table that is lent. What may come next is asked of the
 // table alone.
+#![tactic(auto)]
+
 ghost use Rattle.std.specs.Prelude.{◌≡◌, false};
 ghost use Rattle.cdf_unit_prefix.specs.Layout.{layout_of};
 ghost use Rattle.cdf_reader_cursor.specs.Outcomes.{cursor_place, outcome_reply};

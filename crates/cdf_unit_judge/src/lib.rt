@@ -1,4 +1,6 @@
 // The rules 3 to 9 for the unit at the front of what the enclosing unit has left.
+#![tactic(auto)]
+
 ghost use Rattle.std.specs.Prelude.{◌≡◌, true, false};
 ghost use Rattle.cdf_unit_prefix.specs.Layout.{layout_of};
 ghost use Rattle.cdf_unit_data.specs.Standing.{row_bytes};
@@ -12,7 +14,7 @@ use cdf_unit_table::{NONE, action_allowed, first_state, is_root_kind, state_afte
 
 // Rules 8 and 9: the action is not allowed, this byte of the own data is the first that breaks its rule, or the name or
 // fixed numbers take so many bytes.
-#[derive(Drop)]
+#[derive(Clone, Copy)]
 pub enum Body {
     Action,
     Data(usize),
@@ -21,7 +23,7 @@ pub enum Body {
 
 // Rules 3 to 9: a fault's number and its offset from the unit's start, or the unit: lengths count from its start, and `state`
 // is the enclosing unit's once it has had this one. Nothing encloses a root: for that, `state` is its own.
-#[derive(Drop)]
+#[derive(Clone, Copy)]
 pub enum Judged {
     Fault {
         number: usize,

@@ -1,6 +1,6 @@
 -- The stack and the listed units go on together over one more unit.
 use mathlib.Core.Path.{◌≡◌, refl}
-use mathlib.Core.Bool.{Bool, false, true, cond, and_true}
+use mathlib.Core.Bool.{Bool, false, true, cond, and-true}
 use mathlib.Core.List.{List, [], ◌∷◌, map}
 use Prim.Native.Nat.{ℕ, suc, ◌≤◌, ◌<◌, ◌+◌}
 use native.Mathlib.Omega.{arith}
@@ -51,7 +51,7 @@ module _ (us : List Unit) (os : List Open) (v : Unit) (e : Enters us os v) where
   unfolding open_at parents_that
   reaching_new pos p q =
       let far = narrow (open_at v.start us) v.start v.end v.start pos (omega arith) q e.nested in
-      rw (le-leb pos v.end q, and_true, still_reach (suc v.start) pos p us v.start far)
+      rw (le-leb pos v.end q, and-true, still_reach (suc v.start) pos p us v.start far)
 
   pub enter : Follow (v ∷ us) (opened v os) (after v)
   unfolding opened

@@ -1,8 +1,9 @@
 // The units of a stream: the types that the calls share, and in specs/ the unit list, the check's answer and the samples.
+#![tactic(auto)]
 
 // A unit. Positions are offsets in the stream; `own` is where its name or its numbers end, or its prefix if it has none of
 // these.
-#[derive(Drop)]
+#[derive(Clone, Copy)]
 pub struct Unit {
     pub id: usize,
     pub action: usize,
@@ -13,7 +14,7 @@ pub struct Unit {
 
 // A unit with where it stands in the tree, as it is handed out: its depth, which is 1 for the root, and its rank among its
 // siblings, which is 0 for the first.
-#[derive(Drop)]
+#[derive(Clone, Copy)]
 pub struct Ranked {
     pub unit: Unit,
     pub depth: usize,
@@ -21,7 +22,7 @@ pub struct Ranked {
 }
 
 // A unit whose children are being read. The state tells which unit it is and what it has had.
-#[derive(Drop)]
+#[derive(Clone, Copy)]
 pub struct Open {
     pub state: usize,
     pub start: usize,

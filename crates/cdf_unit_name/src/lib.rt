@@ -1,4 +1,6 @@
 // The name at the front of a unit's own data, by a row that tells where each byte may stand.
+#![tactic(auto)]
+
 ghost use Rattle.std.specs.Prelude.{◌≡◌};
 ghost use Rattle.cdf_unit_data.specs.Standing.{row_bytes};
 ghost use Rattle.cdf_unit_data.specs.Data.{front_by, name_by};

@@ -1,7 +1,7 @@
 -- The ranges of states by which the code tests kinds: at every state by computation, past them by law.
 use Prim.Native.Nat.{ℕ, ◌≤◌}
 use mathlib.Core.Path.{◌≡◌, refl}
-use mathlib.Core.Bool.{Bool, true, false, cond, ◌&&◌, and_false}
+use mathlib.Core.Bool.{Bool, true, false, cond, ◌&&◌, and-false}
 use native.Mathlib.Omega.{arith}
 use borrow.Author.Tests.{lt-leb, ltb-true, ltb-false}
 use lib.Dec.{leb, ltb}
@@ -13,7 +13,7 @@ use Rattle.cdf_unit_table.proofs.Rows.{no_unit, admits_none, none_admits}
 
 root_past : (s : ℕ) → states_end ≤ s → (leb stream_new s && leb s file_skipped) ≡ root_kind (unit_of s)
 unfolding root_kind
-root_past s h = rw (lt-leb s file_skipped (omega arith), and_false, no_unit s h)
+root_past s h = rw (lt-leb s file_skipped (omega arith), and-false, no_unit s h)
 
 pub root_is : (s : ℕ) → (leb stream_new s && leb s file_skipped) ≡ root_kind (unit_of s)
 unfolding root_kind unit_of
@@ -34,7 +34,7 @@ outer_past p c h =
       lt-leb p stream_skipped (omega arith),
       lt-leb p ordered_skipped (omega arith),
       admits_none (unit_of p) (unit_of c) (no_unit p h),
-    ) (simp and_false)
+    ) (simp and-false)
 
 inner_past : (p c : ℕ) → states_end ≤ c → nests_by p c ≡ admits_kind (unit_of p) (unit_of c)
 unfolding nests_by
@@ -44,7 +44,7 @@ inner_past p c h =
       lt-leb c call_skipped (omega arith),
       lt-leb c entity_skipped (omega arith),
       none_admits (unit_of p) (unit_of c) (no_unit c h),
-    ) (simp and_false (go (leb er_new p && leb p er_skipped) (leb stream_new p && leb p stream_skipped) (leb relation_new p && leb p ordered_skipped)))
+    ) (simp and-false (go (leb er_new p && leb p er_skipped) (leb stream_new p && leb p stream_skipped) (leb relation_new p && leb p ordered_skipped)))
   where
     go : (x y z : Bool) → cond x false (cond y false (cond z false false)) ≡ false
     go true y z = refl

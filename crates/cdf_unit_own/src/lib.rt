@@ -1,4 +1,6 @@
 // The own data of a unit, on the bytes after its prefix.
+#![tactic(auto)]
+
 ghost use Rattle.std.specs.Prelude.{◌≡◌, ◌≤◌, [], ◌∷◌};
 ghost use types.Run.{OneOf};
 ghost use Rattle.cdf_unit_data.specs.Standing.{row_bytes};

@@ -1,4 +1,6 @@
 // The prefix of a unit in either edition, and the rules 3 to 6, which look at nothing else.
+#![tactic(auto)]
+
 ghost use Rattle.std.specs.Prelude.{◌≡◌, [], ◌∷◌, ◌+◌, ◌*◌, ◌≤◌, ◌<◌, length};
 ghost use Rattle.cdf_unit_prefix.specs.Layout.{layout_of, edition_of, prefix_of, marked, length_at, length_fits};
 ghost use Rattle.cdf_unit_prefix.specs.Rules.{head_of};
@@ -6,7 +8,7 @@ ghost use Rattle.cdf_unit_prefix.specs.Rules.{head_of};
 use cdf_unit_table::is_known;
 
 // Which of the two published layouts a stream has.
-#[derive(Drop)]
+#[derive(Clone, Copy)]
 pub enum Edition {
     First,
     Second,
@@ -20,7 +22,7 @@ pub fn edition_of(s: &[u8]) -> Edition
 }
 
 // Rules 3 to 6: the number of the first that is broken, or what the prefix says.
-#[derive(Drop)]
+#[derive(Clone, Copy)]
 pub enum Header {
     Stop(usize),
     Prefix {

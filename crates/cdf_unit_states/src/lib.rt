@@ -1,4 +1,6 @@
 // What a state tells of its unit: which unit it is of, and whether it was skipped.
+#![tactic(auto)]
+
 ghost use Rattle.std.specs.Prelude.{◌≡◌, not, ◌&&◌, eqb, leb, ltb};
 ghost use Rattle.cdf_unit_table.specs.States.{states_end, unit_of, skipped};
 

@@ -2,7 +2,7 @@
 -- antt computes over all of them.
 use Prim.Native.Nat.{ℕ, ◌≤◌, ◌<◌}
 use mathlib.Core.Path.{◌≡◌, refl, sym, subst, ◌∙◌}
-use mathlib.Core.Bool.{Bool, true, false, not, cond, ◌&&◌, ◌||◌, and_false, false≢true}
+use mathlib.Core.Bool.{Bool, true, false, not, cond, ◌&&◌, ◌||◌, and-false, false≢true}
 use mathlib.Core.List.{List, [], ◌∷◌}
 use mathlib.Core.Logic.{⊎_elim}
 use borrow.Author.Tests.{eq-eqb, ne_eqb, eqb-true, leb-true, le-leb, lt-leb, ltb-true, ltb-false, lt-ltb}
@@ -82,7 +82,7 @@ pub ranged : (from to next c : ℕ) → to < states_end →
     cond (leb from s && leb s to) next 0 ≡ admit s c
 ranged from to next c low e =
     same (λ s. cond (leb from s && leb s to) next 0) (λ s. admit s c) states_end e
-    (λ s h. rw (lt-leb s to (omega arith), and_false, admit_past s c h))
+    (λ s h. rw (lt-leb s to (omega arith), and-false, admit_past s c h))
 
 -- It is admitted in none but these.
 pub no_state : (kss : List (List ℕ)) (c : ℕ) → T (all_rows (λ r. not (eqb r.child c) || member_of kss r.state) rows) →
@@ -175,7 +175,7 @@ pub none_admits : (u v : ℕ) → v ≡ 0 → admits_kind u v ≡ false
 unfolding admits_kind unit_of
 none_admits u v z =
     any_none (λ r. eqb (unit_of r.state) u && eqb r.child v) (λ r. ltb 0 r.child)
-    (λ r t. rw (ne_eqb r.child v (λ e. absurd (omega (arith, ltb→lt 0 r.child t))), and_false)) rows tt
+    (λ r t. rw (ne_eqb r.child v (λ e. absurd (omega (arith, ltb→lt 0 r.child t))), and-false)) rows tt
 
 -- A row that passes, where one does, has what each row passes.
 pub any_row_lem : (f x : Row → Bool) (P : Type 0) → (rs : List Row) → T (all_rows x rs) → any_row f rs ≡ true →

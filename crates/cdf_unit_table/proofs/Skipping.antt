@@ -1,7 +1,7 @@
 -- The skipped state: by the ends of the units' ranges, and as what it is. At every state by computation, past them by law.
 use Prim.Native.Nat.{ℕ, ◌≤◌}
 use mathlib.Core.Path.{◌≡◌, refl}
-use mathlib.Core.Bool.{cond, ◌&&◌, and_false}
+use mathlib.Core.Bool.{cond, ◌&&◌, and-false}
 use native.Mathlib.Omega.{arith}
 use borrow.Author.Tests.{le-ltb, lt-leb, leb-true}
 use lib.Dec.{leb, ltb, ltb→lt}
@@ -60,4 +60,4 @@ pub skipped_complete : (s : ℕ) → complete (skipped s) ≡ (leb 1 s && ltb s 
 unfolding complete skipped
 skipped_complete =
     agree (λ s. complete (skipped s)) (λ s. leb 1 s && ltb s states_end) states_end tt
-    (λ s h. rw (past s h, le-ltb s states_end h, and_false))
+    (λ s h. rw (past s h, le-ltb s states_end h, and-false))

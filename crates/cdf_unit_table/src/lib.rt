@@ -1,4 +1,6 @@
 // The table of units: which there are, their actions, what each admits and when it is complete.
+#![tactic(auto)]
+
 ghost use Rattle.std.specs.Prelude.{◌≡◌, ◌&&◌, cond, leb};
 ghost use Rattle.cdf_unit_table.specs.Ids.{known, action_allowed, temporary_key, template_key, entity_key, relation_key};
 ghost use Rattle.cdf_unit_table.specs.States.{admit, root_kind, nothing, skipped, complete};

@@ -1,4 +1,6 @@
 // The version of the numbers that cross to programs in C.
+#![tactic(auto)]
+
 ghost use Rattle.std.specs.Prelude.{◌≡◌};
 ghost use Rattle.cdf_version_c.specs.Version.{version};
 

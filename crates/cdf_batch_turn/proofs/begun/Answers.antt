@@ -29,4 +29,4 @@ pub returns-then-many : goal.returns-then-many
 returns-then-many c = rw (fitted c.before, c.if-many.true-raw)
 
 pub returns : goal.returns
-returns-then-not-fit c = rw (fitted c.before, c.if-many.false-raw)
+returns c = rw (fitted c.before, c.if-many.false-raw)

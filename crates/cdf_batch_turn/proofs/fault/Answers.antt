@@ -105,7 +105,7 @@ overflow_add-sum c =
 
 pub returns : goal.returns
 unfolding fault_of
-returns-then-joined-ne0 c =
+returns c =
     let asked = c.before.before.before in
     let writes = asked.before.before in
     let past = writes.before.before.before in

@@ -6,4 +6,4 @@ pub returns-then-first-eq0 : goal.returns-then-first-eq0
 returns-then-first-eq0 c = rw (eq-eqb _ 0 c.if-first-eq0.true)
 
 pub returns : goal.returns
-returns-then-first-eq0 c = rw (ne_eqb _ 0 c.if-first-eq0.false)
+returns c = rw (ne_eqb _ 0 c.if-first-eq0.false)

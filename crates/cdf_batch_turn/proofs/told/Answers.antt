@@ -6,4 +6,4 @@ pub returns-then-ran-ne0 : goal.returns-then-ran-ne0
 returns-then-ran-ne0 c = rw (ne_eqb _ 0 c.if-ran-ne0.true)
 
 pub returns : goal.returns
-returns-then-ran-ne0 c = rw c.if-ran-ne0.false
+returns c = rw c.if-ran-ne0.false

@@ -120,7 +120,7 @@ overflow_add-sum c =
     omega (arith, (bounds passed).1, c.prefix.ensures.near, w.0, w.1, small past)
 
 pub returns : goal.returns
-returns-then-ran-ne0 c =
+returns c =
     let wrote = c.before.before.before in
     let grew = wrote.before.before in
     let sized = grew.before.before in

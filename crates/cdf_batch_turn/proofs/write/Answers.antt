@@ -12,7 +12,7 @@ returns-then-not-writing c =
     rw off
 
 pub returns : goal.returns
-returns-then-not-writing c =
+returns c =
     let a = c.args in
     let on : a.writing ≡ true = not-false a.writing c.if-not-writing.false-raw in
     rw on c.append_unit.ensures

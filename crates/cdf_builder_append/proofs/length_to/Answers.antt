@@ -7,4 +7,4 @@ pub returns-then-written-start : goal.returns-then-written-start
 returns-then-written-start c = omega (arith, c.if-written-start.true)
 
 pub returns : goal.returns
-returns-then-written-start c = refl
+returns c = refl

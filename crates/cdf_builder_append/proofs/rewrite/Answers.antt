@@ -8,5 +8,5 @@ pub returns-then-p-eq0 : goal.returns-then-p-eq0
 returns-then-p-eq0 c = empty _ _ _ c.if-p-eq0.true
 
 pub returns : goal.returns
-returns-then-p-eq0 c =
+returns c =
     c.write_open.ensures ∙ all _ _ _ c.if-p-eq0.false c.rewrite_around.ensures

@@ -15,5 +15,5 @@ returns-then-p-lt4 c =
     three _ _ _ c.write_open.ensures c.write_open-2.ensures c.if-p-lt3.false c.if-p-lt4.true
 
 pub returns : goal.returns
-returns-then-p-lt2 c =
+returns c =
     four _ _ _ c.write_open.ensures c.write_open-2.ensures c.if-p-lt4.false c.write_open-3.ensures

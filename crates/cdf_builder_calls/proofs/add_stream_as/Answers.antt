@@ -11,7 +11,7 @@ returns-then-added-ne0 c =
 
 pub returns : goal.returns
 unfolding bytes_for
-returns-then-added-ne0 c =
+returns c =
     let wrote = c.append_group in
     let none = c.if-added-ne0.false in
     let built = c.decide_group-added in

@@ -9,7 +9,7 @@ returns-then-decided-ne0 c =
     record { is = refusing _ _ _ _ _ built.ensures.0 c.if-decided-ne0.true; kept = built.ensures.1 }
 
 pub returns : goal.returns
-returns-then-decided-ne0 c =
+returns c =
     let wrote = c.append_unit in
     let none = c.if-decided-ne0.false in
     let built = c.decide_unit-decided in

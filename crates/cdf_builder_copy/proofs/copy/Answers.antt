@@ -25,6 +25,6 @@ pub copy_eights-requires : goal.copy_eights-requires
 copy_eights-requires c = (omega arith, omega arith)
 
 pub returns : goal.returns
-returns-then-tail-bytes c =
+returns c =
     let a = c.args in
     c.copy_eights.ensures ∙ sym (onto_some a.bytes.now a.tail.now (omega arith))

@@ -63,4 +63,4 @@ pub grow-requires : goal.grow-requires
 grow-requires c = growable _ _ _ _ _ _ _ _ (asked c)
 
 pub returns : goal.returns
-returns-then-not-is_fit c = record { is = c.grow.ensures.is ∙ grows _ _ _ _ _ _ _ _ (asked c.before); kept = c.grow.ensures.kept }
+returns c = record { is = c.grow.ensures.is ∙ grows _ _ _ _ _ _ _ _ (asked c.before); kept = c.grow.ensures.kept }

@@ -17,7 +17,7 @@ returns-then-number-ne0 c =
     record { is = rw (← asked.ensures, ne_eqb asked.result 0 c.if-number-ne0.true); kept = λ some. refl }
 
 pub returns : goal.returns
-returns-then-number-ne0 c =
+returns c =
     let none = sym c.room-number.ensures ∙ c.if-number-ne0.false in
     let a = c.args in
     let grew = entered-is a.p a.left.count a.left.top _ a.first (c.requires.slot none) in

@@ -12,4 +12,4 @@ pub returns-then-count-eq2 : goal.returns-then-count-eq2
 returns-then-count-eq2 c = rw (ne_eqb _ 0 c.if-first-eq0.false, ne_eqb _ 1 c.if-count-eq1.false, eq-eqb _ 2 c.if-count-eq2.true)
 
 pub returns : goal.returns
-returns-then-first-eq0 c = rw (ne_eqb _ 0 c.if-first-eq0.false, ne_eqb _ 1 c.if-count-eq1.false, ne_eqb _ 2 c.if-count-eq2.false)
+returns c = rw (ne_eqb _ 0 c.if-first-eq0.false, ne_eqb _ 1 c.if-count-eq1.false, ne_eqb _ 2 c.if-count-eq2.false)

@@ -14,4 +14,4 @@ returns-then-n-size c = rw (← c.limit-most.ensures, le-ltb _ _ c.if-most-size.
 
 pub returns : goal.returns
 unfolding room
-returns-then-most-size c = rw (← c.limit-most.ensures, le-ltb _ _ c.if-most-size.false, le-ltb _ _ c.if-n-size.false)
+returns c = rw (← c.limit-most.ensures, le-ltb _ _ c.if-most-size.false, le-ltb _ _ c.if-n-size.false)

@@ -31,6 +31,6 @@ returns-in-4 c =
 pub returns-in_default : goal.returns-in_default
 returns-in_default c =
     let a = c.args in
-    let other = c.in_default.rest in
+    let other = c.in_default.in_default-own.rest in
     no_other (layout_of a.edition) a.count a.top a.o1 a.o2 a.o3
     other.0.0.0.1 other.0.0.1 other.0.1 other.1

@@ -28,7 +28,7 @@ returns-then-not-is_past c =
     (sym past.ensures ∙ not-true past.result c.if-not-is_past.true-raw)
 
 pub returns : goal.returns
-returns-then-n-written c =
+returns c =
     let a = c.args in
     let p = a.p in
     c.are_linked.ensures

@@ -29,4 +29,4 @@ loop-left-preserved c =
     ∙ completed-on _ _ _ _ c.loop-left-test.true _ c.around-inner.ensures (sym full.ensures ∙ not-false full.result c.if-not-is_complete.false-raw)
 
 pub returns : goal.returns
-returns-then-not-is_complete c = sym (c.loop-left.invariant ∙ completed_none _ _ _ _ c.loop-left-test.false)
+returns c = sym (c.loop-left.invariant ∙ completed_none _ _ _ _ c.loop-left-test.false)

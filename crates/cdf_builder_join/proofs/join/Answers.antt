@@ -32,6 +32,6 @@ loop-left-preserved c =
     on _ _ _ _ _ c.loop-left.invariant c.loop-left-test.true (sym c.state_after-next.ensures ∙ none) _ full.ensures _ c.around-inner.ensures
 
 pub returns : goal.returns
-returns-then-full c =
+returns c =
     let w = none _ _ _ _ _ c.loop-left.invariant c.loop-left-test.false in
     record { number = sym w.0; left = w.1; nowhere = λ e. refl }

@@ -8,6 +8,6 @@ pub returns-then-built-ne0 : goal.returns-then-built-ne0
 returns-then-built-ne0 c = record { number = refl; place = rw (ne_eqb _ 0 c.if-built-ne0.true) }
 
 pub returns : goal.returns
-returns-then-built-ne0 c =
+returns c =
     let zero = c.if-built-ne0.false in
     record { number = sym zero; place = rw (eq-eqb _ 0 zero) c.write_builder.ensures }

@@ -18,4 +18,4 @@ pub returns-then-n-count : goal.returns-then-n-count
 returns-then-n-count c = let a = c.args in sym (lt-leb (a.at + a.count) a.n (omega arith))
 
 pub returns : goal.returns
-returns-then-n-count c = let a = c.args in less a.at a.count a.n c.if-n-count.false
+returns c = let a = c.args in less a.at a.count a.n c.if-n-count.false

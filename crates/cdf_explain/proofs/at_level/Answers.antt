@@ -10,4 +10,4 @@ pub returns-then-k-count : goal.returns-then-k-count
 returns-then-k-count c = rw (ne_eqb _ _ c.if-count-k.false, lt-ltb _ _ c.if-k-count.true)
 
 pub returns : goal.returns
-returns-then-count-k c = rw (ne_eqb _ _ c.if-count-k.false, le-ltb _ _ c.if-k-count.false) c.no_open.ensures
+returns c = rw (ne_eqb _ _ c.if-count-k.false, le-ltb _ _ c.if-k-count.false) c.no_open.ensures

@@ -91,7 +91,7 @@ tell-requires c =
     closed_few _ _ _ _ _ _ c.close-left.ensures end.few
 
 pub returns : goal.returns
-returns-then-a-eq1 c =
+returns c =
     let shut = c.before.before in
     let refused = shut.before.before.before.before.before.before in
     let done = refused.before.before in

@@ -7,4 +7,4 @@ pub returns-then-count-eq0 : goal.returns-then-count-eq0
 returns-then-count-eq0 c = rw (eq-eqb _ 0 c.if-count-eq0.true) c.is_root_kind.ensures
 
 pub returns : goal.returns
-returns-then-count-eq0 c = rw (ne_eqb _ 0 c.if-count-eq0.false, c.state_after.ensures)
+returns c = rw (ne_eqb _ 0 c.if-count-eq0.false, c.state_after.ensures)

@@ -22,4 +22,4 @@ returns-then-room-lt9 c = let a = c.args in rw (lt-leb (room_by a.n) a.room (ome
 
 pub returns : goal.returns
 unfolding any_fits
-returns-then-room-lt9 c = let a = c.args in rw (by_lines a.n a.room c.if-room-lt9.false)
+returns c = let a = c.args in rw (by_lines a.n a.room c.if-room-lt9.false)

@@ -11,5 +11,5 @@ returns-then-any_fits c =
     sym (ample c.args.s.now c.args.room (sym c.any_fits.ensures ∙ c.if-any_fits.true))
 
 pub returns : goal.returns
-returns-then-any_fits c =
+returns c =
     ap (λ n. leb n c.args.room) (c.put_listing-size.ensures.next ∙ zero-add _)

@@ -15,7 +15,7 @@ returns-then-not-text_fits c =
     record { is = all.0; bytes = all.1 }
 
 pub returns : goal.returns
-returns-then-not-text_fits c =
+returns c =
     let all = filled (listing_text (layout_of First) c.args.s.now) c.args.buffer.now
     (sym c.text_fits.ensures ∙ not-false c.text_fits.result c.if-not-text_fits.false-raw) c.put_listing-length.ensures in
     record { is = all.0; bytes = all.1 }

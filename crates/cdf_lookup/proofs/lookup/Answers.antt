@@ -43,7 +43,7 @@ slice_bounds-result-end-2 c =
     omega (arith, in-first c.lookup_place-a.result.which a.first.now a.second.now _ c.lookup_place-a.ensures.within c.if-a-eq2.false)
 
 pub returns : goal.returns
-returns-then-a-eq2 c =
+returns c =
     let r = c.lookup_place-a.result in
     let size : r.start + r.size - r.start ≡ r.size = omega arith in
     let first = ne_eqb r.which 2 c.if-a-eq2.false in

@@ -11,7 +11,7 @@ returns-then-u-id c =
 
 pub returns : goal.returns
 unfolding reads
-returns-then-u-id c =
+returns c =
     rw (
       eq-eqb _ _ c.if-u-id.false,
       ← c.prefix.ensures.is,

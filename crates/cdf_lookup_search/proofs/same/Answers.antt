@@ -35,6 +35,6 @@ loop-i-preserved c =
     alike_on a.a.now a.b.now c.loop-i.i c.loop-i.invariant c.loop-i-test.true c.if-a-i.false
 
 pub returns : goal.returns
-returns-then-a-b c =
+returns c =
     let a = c.args in
     sym (alike_whole a.a.now a.b.now c.loop-i.i c.loop-i.invariant c.loop-i-test.false)

@@ -123,7 +123,7 @@ returns-then-a-eq1 c =
     record { is = all.0; placed = all.1 }
 
 pub returns : goal.returns
-returns-then-a-eq1 c =
+returns c =
     let end = c.before.before in
     let turn = end.before.before.before in
     let is = c.outcome-value.ensures in

@@ -37,6 +37,6 @@ pub slice_bounds-result-end-2 : goal.slice_bounds-result-end-2
 slice_bounds-result-end-2 c = omega (arith, lies c)
 
 pub returns : goal.returns
-returns-then-a-ne0 c =
+returns c =
     let all = rw (part-some _ _ _ (sym (number c.before.before.before) ∙ c.if-a-ne0.false)) (refl, (refl, search rules)) in
     record { bytes = all.0; stands = all.1 }

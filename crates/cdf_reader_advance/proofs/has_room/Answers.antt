@@ -8,5 +8,5 @@ returns-then-first-eq0 c =
     rw (leaf_by c.args.id c.first_state-first.result c.first_state-first.ensures c.if-first-eq0.true)
 
 pub returns : goal.returns
-returns-then-first-eq0 c =
+returns c =
     rw (opens_by c.args.id c.first_state-first.result c.first_state-first.ensures c.if-first-eq0.false)

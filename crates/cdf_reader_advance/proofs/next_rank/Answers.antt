@@ -26,7 +26,7 @@ returns-then-c c =
     rw (ne_eqb a.before highest c.if-before-eq-HIGHEST.false, le-ltb a.left a.c.count (omega (arith, c.if-left-c.false)), eq-eqb _ _ c.if-c.true)
 
 pub returns : goal.returns
-returns-then-before-eq-HIGHEST c =
+returns c =
     let a = c.args in
     rw (ne_eqb a.before highest c.if-before-eq-HIGHEST.false, le-ltb a.left a.c.count (omega (arith, c.if-left-c.false)), ne_eqb _ _ c.if-c.false)
     (one_more a.before)

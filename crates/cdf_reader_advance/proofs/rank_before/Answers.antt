@@ -13,7 +13,7 @@ pub overflow_add-level : goal.overflow_add-level
 overflow_add-level c = omega (arith, c.if-c-left.false)
 
 pub returns : goal.returns
-returns-then-c-left c =
+returns c =
     let a = c.args in
     let e : a.left + 1 ≡ suc a.left = omega arith in
     rw (lt-leb a.c.count a.left (omega (arith, c.if-c-left.false))) (rw e at c.rank_at.ensures)

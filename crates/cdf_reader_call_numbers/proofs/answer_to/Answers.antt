@@ -34,6 +34,6 @@ pub returns-then-is_kept : goal.returns-then-is_kept
 returns-then-is_kept c = leaves-old (answered c.before) (sym c.is_kept.ensures ∙ c.if-is_kept.true)
 
 pub returns : goal.returns
-returns-then-is_kept c =
+returns c =
     let new = c.before.before.before in
     leaves-new (answered new.before) (sym c.is_kept.ensures ∙ c.if-is_kept.false) _ c.write_place.ensures

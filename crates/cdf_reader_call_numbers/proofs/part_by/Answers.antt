@@ -18,6 +18,6 @@ overflow_sub-result c =
     c.requires (sym asked.ensures ∙ not-false asked.result c.if-not-is_take.false-raw) c.if-number-ne0.false
 
 pub returns : goal.returns
-returns-then-not-is_take c =
+returns c =
     let asked = c.is_take in
     rw (← asked.ensures, not-false asked.result c.if-not-is_take.false-raw, eq-eqb _ 0 c.if-number-ne0.false)

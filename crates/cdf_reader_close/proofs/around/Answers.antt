@@ -13,5 +13,5 @@ pub returns-then-count-eq4 : goal.returns-then-count-eq4
 returns-then-count-eq4 c = rw (ne_eqb _ 2 c.if-count-eq2.false, ne_eqb _ 3 c.if-count-eq3.false, eq-eqb _ 4 c.if-count-eq4.true)
 
 pub returns : goal.returns
-returns-then-count-eq2 c =
+returns c =
     rw (ne_eqb _ 2 c.if-count-eq2.false, ne_eqb _ 3 c.if-count-eq3.false, ne_eqb _ 4 c.if-count-eq4.false) c.no_open.ensures

@@ -31,4 +31,4 @@ loop-left-preserved c =
     (sym c.is_complete.ensures ∙ not-false c.is_complete.result c.if-not-is_complete.false-raw) _ c.around-inner.ensures
 
 pub returns : goal.returns
-returns-then-inner-position c = stopped _ _ _ _ _ _ _ c.loop-left.invariant (λ some e. absurd (some (omega (arith, c.loop-left-test.false))))
+returns c = stopped _ _ _ _ _ _ _ c.loop-left.invariant (λ some e. absurd (some (omega (arith, c.loop-left-test.false))))

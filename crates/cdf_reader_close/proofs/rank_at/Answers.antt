@@ -21,7 +21,7 @@ returns-then-level-eq3 c =
     )
 
 pub returns : goal.returns
-returns-then-level-count c =
+returns c =
     rw (
       ne_eqb _ _ c.if-level-count.false,
       ne_eqb _ 1 c.if-level-eq1.false,

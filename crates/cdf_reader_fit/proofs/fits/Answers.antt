@@ -40,7 +40,7 @@ returns-then-not-is_ranked c =
     (sym ranked.ensures ∙ not-true ranked.result c.if-not-is_ranked.true-raw)
 
 pub returns : goal.returns
-returns-then-not-is_past c =
+returns c =
     let a = c.args in
     c.is_chain.ensures
     ∙ by_chain (layout_of a.edition) a.n a.position a.count a.top a.o1 a.o2 a.o3 a.last a.fresh a.ranks

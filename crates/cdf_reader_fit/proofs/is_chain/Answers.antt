@@ -56,7 +56,7 @@ returns-then-count-eq4 c =
     c.is_under-then-count-eq4.ensures ∙ fourfold (layout_of a.edition) a.n a.count a.top a.o1 a.o2 a.o3 one two three c.if-count-eq4.true
 
 pub returns : goal.returns
-returns-then-count-eq1 c =
+returns c =
     let a = c.args in
     too_many (layout_of a.edition) a.n a.count a.top a.o1 a.o2 a.o3
     c.if-count-eq1.false c.if-count-eq2.false c.if-count-eq3.false c.if-count-eq4.false

@@ -29,7 +29,7 @@ returns-then-most-p c =
     not-ranked a.edition a.n (place_from a.p.now) _ c.most_rank-most.ensures c.if-most-p.true
 
 pub returns : goal.returns
-returns-then-not-is_past c =
+returns c =
     let a = c.args in
     c.holds.ensures
     ∙ by-held a.edition a.n (place_from a.p.now) _ c.most_rank-most.ensures

@@ -28,6 +28,6 @@ returns-then-count-eq4 c =
     c.holds_four.ensures ∙ ap (held (layout_of a.edition) a.n a.most (place_from a.p.now)) (sym c.if-count-eq4.true)
 
 pub returns : goal.returns
-returns-then-count-eq1 c =
+returns c =
     let a = c.args in
     other (layout_of a.edition) a.n a.most (place_from a.p.now) _ c.if-count-eq1.false c.if-count-eq2.false c.if-count-eq3.false c.if-count-eq4.false

@@ -7,4 +7,4 @@ pub returns-then-p-eq0 : goal.returns-then-p-eq0
 returns-then-p-eq0 c = rw (eq-eqb _ 0 c.if-p-eq0.true) c.is_bounded.ensures
 
 pub returns : goal.returns
-returns-then-p-eq0 c = rw (ne_eqb _ 0 c.if-p-eq0.false) c.is_skippable.ensures
+returns c = rw (ne_eqb _ 0 c.if-p-eq0.false) c.is_skippable.ensures

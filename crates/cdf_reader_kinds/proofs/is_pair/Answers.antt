@@ -6,4 +6,4 @@ pub returns-then-a : goal.returns-then-a
 returns-then-a c = rw c.if-a.true at (pair_is c.args.a c.args.b)
 
 pub returns : goal.returns
-returns-then-a c = rw c.if-a.false at (pair_is c.args.a c.args.b)
+returns c = rw c.if-a.false at (pair_is c.args.a c.args.b)

@@ -6,4 +6,4 @@ pub returns-then-b : goal.returns-then-b
 returns-then-b c = rw c.if-b.true at (triple_is c.args.a c.args.b c.args.c)
 
 pub returns : goal.returns
-returns-then-b c = rw c.if-b.false at (triple_is c.args.a c.args.b c.args.c)
+returns c = rw c.if-b.false at (triple_is c.args.a c.args.b c.args.c)

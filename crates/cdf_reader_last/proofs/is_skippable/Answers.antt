@@ -6,5 +6,5 @@ pub returns-then-not-fresh : goal.returns-then-not-fresh
 returns-then-not-fresh c = rw c.if-not-fresh.true-raw
 
 pub returns : goal.returns
-returns-then-not-fresh c =
+returns c =
     rw (c.if-not-fresh.false-raw, c.first_state-first.ensures)

@@ -17,7 +17,7 @@ returns-then-not-fits_at c =
     (rw c.edition_of-edition.ensures at (sym c.fits_at.ensures ∙ not-true c.fits_at.result c.if-not-fits_at.true-raw))
 
 pub returns : goal.returns
-returns-then-place-eq0 c =
+returns c =
     let a = c.args in
     steps a.s.now a.place.now
     (rw c.edition_of-edition.ensures at (sym c.fits_at.ensures ∙ not-false c.fits_at.result c.if-not-fits_at.false-raw)) _ _ _

@@ -6,4 +6,4 @@ pub returns-then-on : goal.returns-then-on
 returns-then-on c = rw c.if-on.true
 
 pub returns : goal.returns
-returns-then-on c = rw c.if-on.false
+returns c = rw c.if-on.false

@@ -14,4 +14,4 @@ returns-then-b-p c =
     sym (rw (← p.ensures.0) (lt-leb (start.a + p.result) start.b (omega arith)))
 
 pub returns : goal.returns
-returns-then-b-p c = rw (← c.prefix-p.ensures.is) (taken_off _ _ _ c.if-b-p.false)
+returns c = rw (← c.prefix-p.ensures.is) (taken_off _ _ _ c.if-b-p.false)

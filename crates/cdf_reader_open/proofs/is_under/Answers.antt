@@ -7,6 +7,6 @@ pub returns-then-not-nests : goal.returns-then-not-nests
 returns-then-not-nests c = rw (← c.nests.ensures, not-true c.nests.result c.if-not-nests.true-raw)
 
 pub returns : goal.returns
-returns-then-not-nests c =
+returns c =
     let kind = c.nests in
     rw (← kind.ensures, not-false kind.result c.if-not-nests.false-raw, c.is_past.ensures)

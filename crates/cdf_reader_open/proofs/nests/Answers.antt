@@ -20,6 +20,6 @@ returns-then-outer-3 c =
 
 pub returns : goal.returns
 unfolding nests_by
-returns-then-outer c =
+returns c =
     let start = c.args in
     rw (c.if-outer.false, c.if-outer-2.false, c.if-outer-3.false) at (nests_is start.outer start.inner)

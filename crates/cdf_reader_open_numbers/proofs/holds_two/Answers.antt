@@ -14,7 +14,7 @@ returns-then-not-is_pair c =
     (two (layout_of a.edition) a.n a.most (place_from a.p.now)).0 (sym kinds.ensures ∙ not-true kinds.result c.if-not-is_pair.true-raw)
 
 pub returns : goal.returns
-returns-then-not-is_pair c =
+returns c =
     let kinds = c.is_pair in
     let a = c.args in
     rw c.is_past.ensures

@@ -13,7 +13,7 @@ pub run-count-requires : goal.run-count-requires
 run-count-requires c = omega (arith, c.if-log-calls.false)
 
 pub returns : goal.returns
-returns-then-log-calls c =
+returns c =
     let room = le-ltb _ _ c.if-log-calls.false in
     record {
       told = rw room;

@@ -98,7 +98,7 @@ pub shape_of-log : goal.shape_of-log
 shape_of-log c = kept c.before
 
 pub returns : goal.returns
-returns-then-not-is_known c =
+returns c =
     let a = c.args in
     let inv = c.loop-k.invariant.0 in
     let all = finished a.s.now a.calls.now a.log.now inv (ended-all a.s.now a.calls.now a.log.now inv c.loop-k-test.false) in

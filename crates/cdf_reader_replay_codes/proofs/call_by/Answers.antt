@@ -31,7 +31,7 @@ returns-then-code-eq4 c =
     )
 
 pub returns : goal.returns
-returns-then-code-eq1 c =
+returns c =
     rw (
       ne_eqb _ _ c.if-code-eq1.false,
       ne_eqb _ _ c.if-code-eq2.false,

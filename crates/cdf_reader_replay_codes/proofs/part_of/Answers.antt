@@ -37,6 +37,6 @@ returns-then-end-start c =
     rw (take_code a.code, not-false (eqb a.code 4 && eqb a.number 0) c.if-not-code-number.false-raw, none _ _ c.if-end-start.true)
 
 pub returns : goal.returns
-returns-then-not-code-number c =
+returns c =
     let a = c.args in
     rw (take_code a.code, not-false (eqb a.code 4 && eqb a.number 0) c.if-not-code-number.false-raw)

@@ -6,4 +6,4 @@ pub returns-then-is_start : goal.returns-then-is_start
 returns-then-is_start c = rw (← c.is_start.ensures, c.if-is_start.true)
 
 pub returns : goal.returns
-returns-then-is_start c = rw (← c.is_start.ensures, c.if-is_start.false) c.is_fit.ensures
+returns c = rw (← c.is_start.ensures, c.if-is_start.false) c.is_fit.ensures

@@ -15,6 +15,6 @@ returns-then-c c =
     sym (depth_is c.args.c c.requires.0 ∙ rw (eq-eqb _ _ c.if-c.true))
 
 pub returns : goal.returns
-returns-then-c c =
+returns c =
     let e = suc_is c.args.c.count in
     e ∙ sym (depth_is c.args.c c.requires.0 ∙ rw (ne_eqb _ _ c.if-c.false))

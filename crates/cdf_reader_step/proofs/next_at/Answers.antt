@@ -33,7 +33,7 @@ fit c = sym c.is_fit.ensures ∙ not-false c.is_fit.result c.if-not-is_fit.false
 
 pub returns : goal.returns
 unfolding name_row
-returns-then-c-eq0 c =
+returns c =
     let p = c.args.c in
     let told = c.advance.ensures in
     let all = by_next p _ _ _ (steps p _ _ Next (next-some p c.if-c-eq0.false) (fit c.before.before) refl c.advance.result told.0 told.1) in

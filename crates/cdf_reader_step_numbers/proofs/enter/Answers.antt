@@ -53,7 +53,7 @@ returns-then-count-eq2 c =
 
 pub returns : goal.returns
 unfolding with_state
-returns-then-first-eq0 c =
+returns c =
     let a = c.args in
     let p = c.place_from-p.result in
     let state = c.first_state-first.ensures in

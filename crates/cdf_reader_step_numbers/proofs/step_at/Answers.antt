@@ -13,7 +13,7 @@ returns-then-t-ne0 c =
     c.turn-t.result c.turn-t.ensures c.if-t-ne0.true _ c.refuse.ensures
 
 pub returns : goal.returns
-returns-then-t-ne0 c =
+returns c =
     let a = c.args in
     handed (layout_of a.edition) a.s.now a.place.now _ (c.cursor-c.ensures ∙ ap cursor_of c.place_from-p.ensures)
     c.turn-t.result c.turn-t.ensures c.if-t-ne0.false _ _ c.enter.ensures c.hand.ensures

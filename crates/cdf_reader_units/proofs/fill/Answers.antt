@@ -21,4 +21,4 @@ run-requires c =
     (told, rw (c.cursor-c.ensures, told) at (sym c.is_fit.ensures ∙ not-false c.is_fit.result c.if-not-is_fit.false-raw))
 
 pub returns : goal.returns
-returns-then-p-eq0 c = c.run.ensures
+returns c = c.run.ensures

@@ -67,4 +67,4 @@ pub shape_of-list : goal.shape_of-list
 shape_of-list c = kept c.before.before
 
 pub returns : goal.returns
-returns-then-a-ne0 c = rw c.stopped-2.ensures (full _ _ _ c.loop-count.invariant.0 c.loop-count-test.false)
+returns c = rw c.stopped-2.ensures (full _ _ _ c.loop-count.invariant.0 c.loop-count-test.false)

@@ -6,4 +6,4 @@ pub returns-then-count-eq0 : goal.returns-then-count-eq0
 returns-then-count-eq0 c = rw c.if-count-eq0.true
 
 pub returns : goal.returns
-returns-then-count-eq0 c = rw (ne_eqb _ 0 c.if-count-eq0.false)
+returns c = rw (ne_eqb _ 0 c.if-count-eq0.false)

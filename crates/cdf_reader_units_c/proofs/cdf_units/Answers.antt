@@ -8,5 +8,5 @@ returns-then-f-eq0 c =
     leaves-old (rw c.place_from-p.ensures at c.fill-f.ensures) c.if-f-eq0.true
 
 pub returns : goal.returns
-returns-then-f-eq0 c =
+returns c =
     leaves-new (rw c.place_from-p.ensures at c.fill-f.ensures) c.if-f-eq0.false _ c.write_place.ensures

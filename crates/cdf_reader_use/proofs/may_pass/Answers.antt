@@ -13,5 +13,5 @@ returns-then-not-fresh c =
 
 pub returns : goal.returns
 unfolding opens
-returns-then-count-eq0 c =
+returns c =
     rw (ne_eqb _ 0 c.if-count-eq0.false, not-false c.args.fresh c.if-not-fresh.false-raw, c.first_state.ensures)

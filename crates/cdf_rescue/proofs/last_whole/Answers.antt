@@ -38,5 +38,5 @@ loop-at-preserved c =
     (simp rest at c.whole_at-length.ensures.within) c.if-length-eq0.false
 
 pub returns : goal.returns
-returns-then-length-eq0 c =
+returns c =
     kept-all _ _ _ _ c.loop-at.invariant (inl (omega (arith, c.loop-at.invariant.high, c.loop-at-test.false)))

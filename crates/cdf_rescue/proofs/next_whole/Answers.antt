@@ -63,5 +63,5 @@ loop-at-preserved c =
     c.if-s-at.branch
 
 pub returns : goal.returns
-returns-then-whole_at-ne0 c =
+returns c =
     passed-all _ _ _ _ c.loop-at.invariant (inl (omega (arith, c.loop-at.invariant.high, c.loop-at-test.false)))

@@ -99,7 +99,7 @@ write_group-requires c =
     }
 
 pub returns : goal.returns
-returns-then-s-first c =
+returns c =
     let wrote = c.before.before.before.before in
     let fits = wrote.before.before in
     let short = fits.before in

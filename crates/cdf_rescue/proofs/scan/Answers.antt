@@ -59,4 +59,4 @@ loop-at-preserved c =
     c.last_whole-at-in-loop-at.ensures
 
 pub returns : goal.returns
-returns-then-runs-eq64 c = scan-all _ _ _ _ _ _ _ c.loop-at.invariant c.loop-at-test.false _ refl refl refl refl refl
+returns c = scan-all _ _ _ _ _ _ _ c.loop-at.invariant c.loop-at-test.false _ refl refl refl refl refl

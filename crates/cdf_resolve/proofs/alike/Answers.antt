@@ -12,6 +12,6 @@ returns-then-not-same c =
 
 pub returns : goal.returns
 unfolding alike_at
-returns-then-not-same c =
+returns c =
     let width = c.requires.0 in
     rw (← width, ← c.same.ensures, not-false c.same.result c.if-not-same.false-raw, ← c.same-2.ensures)

@@ -38,7 +38,7 @@ loop-i-preserved c =
     )
 
 pub returns : goal.returns
-returns-then-alike c =
+returns c =
     let a = c.args in
     let over : c.loop-i.i ≡ a.count = omega (arith, c.loop-i.invariant.0, c.loop-i-test.false) in
     record {

@@ -23,7 +23,7 @@ returns-then-i-n c =
     λ p k. hold-new _ a.s.now p a.t _ _ _ k a.owner (room find) (start find).requires.2 _ c.find-i.ensures c.if-i-n.true
 
 pub returns : goal.returns
-returns-then-n-eq256 c =
+returns c =
     let find = c.before.before in
     let a = (start find).args in
     λ p k.

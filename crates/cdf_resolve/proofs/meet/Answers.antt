@@ -33,7 +33,7 @@ returns-then-kind-eq-ENTITY_KEY c =
     rw (meet-key _ a.s.now p a.owner a.id c.if-id-ne-TEMPORARY_KEY.false c.if-kind-eq-TEMPLATE.false c.if-kind-eq-ENTITY_KEY.true) (c.tell.ensures before p k w)
 
 pub returns : goal.returns
-returns-then-id-ne-TEMPORARY_KEY c =
+returns c =
     let a = c.args in
     λ before p k w.
     rw (meet-other _ a.s.now p a.owner a.id c.if-id-ne-TEMPORARY_KEY.false c.if-kind-eq-TEMPLATE.false c.if-kind-eq-ENTITY_KEY.false) (k, w)

@@ -48,12 +48,12 @@ returns-then-answer-ne0 c =
     record { is = all.0; ranks = all.1 }
 
 pub pass-requires : goal.pass-requires
-pass-t-requires c =
+pass-requires c =
     let first = c.before.before.before.before.before.before.before.before.before.before in
     (c.requires, group first c.if-root-ne-ER_GROUP.false)
 
 pub returns : goal.returns
-returns-then-root-ne-ER_GROUP c =
+returns c =
     let again = c.before.before in
     let told = again.before.before.before.before in
     let pass = told.before.before in

@@ -16,7 +16,7 @@ returns-then-i-n c =
     (tell_none _ a.s.now p a.t _ _ _ k a.owner before a.list.now w _ c.find-i.ensures c.if-i-n.true)
 
 pub returns : goal.returns
-returns-then-i-n c =
+returns c =
     let past = c.before.before.before.before.before in
     let find = past.before in
     let a = (start find).args in

@@ -33,6 +33,6 @@ pub returns-then-a-ne0 : goal.returns-then-a-ne0
 returns-then-a-ne0 c = leaves-old (answered c.before.before) (rw (ne_eqb _ 0 c.if-a-ne0.true))
 
 pub returns : goal.returns
-returns-then-a-ne0 c =
+returns c =
     let new = c.before.before.before in
     leaves-new (answered new.before.before) (rw (eq-eqb _ 0 c.if-a-ne0.false)) _ c.write_place.ensures

@@ -15,7 +15,7 @@ pub returns-then-id-gt14 : goal.returns-then-id-gt14
 returns-then-id-gt14 c = past-ids _ _ _ (omega (arith, c.if-state-gt30.false)) (omega (arith, c.if-id-lt1.false)) c.if-id-gt14.true
 
 pub returns : goal.returns
-returns-then-state-gt30 c =
+returns c =
     c.wide.ensures
     ∙ at_entry c.args.table.now c.args.state c.args.id (omega (arith, c.if-state-gt30.false))
     (omega (arith, c.if-id-lt1.false)) (omega (arith, c.if-id-gt14.false))

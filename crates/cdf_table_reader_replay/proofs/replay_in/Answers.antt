@@ -14,6 +14,6 @@ run_by-count-requires c =
     (c.requires, omega (arith, c.if-log-calls.false))
 
 pub returns : goal.returns
-returns-then-log-calls c =
+returns c =
     let a = c.args in
     leaves_all a.s.now a.calls.now a.log.now (omega (arith, c.if-log-calls.false)) _ _ c.run_by-count.ensures

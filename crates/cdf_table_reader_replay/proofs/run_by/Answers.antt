@@ -96,7 +96,7 @@ pub shape_of-log : goal.shape_of-log
 shape_of-log c = kept c.before
 
 pub returns : goal.returns
-returns-then-not-is_shared c =
+returns c =
     let a = c.args in
     let inv = c.loop-k.invariant in
     let all = finished a.s.now (map heard a.calls.now) a.log.now inv

@@ -16,7 +16,7 @@ returns-then-code-eq2 c =
     record { is = all.0; kept = all.1 }
 
 pub returns : goal.returns
-returns-then-code-eq1 c =
+returns c =
     let a = c.args in
     let all = skips a.table.now _ a.s.now a.c _ c.if-code-eq1.false c.if-code-eq2.false c.call_at.result c.call_at.ensures in
     record { is = all.0; kept = all.1 }

@@ -17,7 +17,7 @@ returns-then-not-is_fit c =
     record { is = all.0; kept = all.1 }
 
 pub returns : goal.returns
-returns-then-c-eq0 c =
+returns c =
     let all = goes_on _ _ _ _ c.if-c-eq0.false (sym c.is_fit.ensures ∙ not-false c.is_fit.result c.if-not-is_fit.false-raw) c.advance_by.result
     c.advance_by.ensures in
     record { is = all.0; kept = all.1 }

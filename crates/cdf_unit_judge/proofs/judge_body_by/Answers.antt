@@ -10,5 +10,5 @@ returns-then-not-action_allowed c = rw (← c.action_allowed.ensures, c.if-not-a
 
 pub returns : goal.returns
 unfolding body_by
-returns-then-not-action_allowed c =
+returns c =
     rw (← c.action_allowed.ensures, c.if-not-action_allowed.false-raw) (c.bodied.ensures ∙ ap data_body c.own_data_by.ensures)

@@ -39,4 +39,4 @@ loop-i-preserved c =
     (not-false c.is_later.result c.if-not-is_later.false-raw)
 
 pub returns : goal.returns
-returns-then-s-eq0 c = ended _ _ _ c.loop-i.invariant c.loop-i-test.false
+returns c = ended _ _ _ c.loop-i.invariant c.loop-i-test.false

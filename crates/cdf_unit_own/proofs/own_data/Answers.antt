@@ -9,7 +9,7 @@ use Rattle.cdf_unit_data.proofs.Standing.{row_is}
 use Rattle.cdf_unit_own.proofs.own_data.Goals as goal
 
 pub unnamed-requires : goal.unnamed-requires
-unnamed-requires c = (c.in_default.rest.0.1, c.in_default.rest.1)
+unnamed-requires c = (c.in_default.in_default-own.rest.0.1, c.in_default.in_default-own.rest.1)
 
 pub returns-in-2 : goal.returns-in-2
 unfolding own_data_by name_row

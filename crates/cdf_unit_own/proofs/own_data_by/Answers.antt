@@ -8,7 +8,7 @@ use Rattle.cdf_unit_data.specs.Standing.{row_bytes}
 use Rattle.cdf_unit_own.proofs.own_data_by.Goals as goal
 
 pub unnamed-requires : goal.unnamed-requires
-unnamed-requires c = (c.in_default.rest.0.1, c.in_default.rest.1)
+unnamed-requires c = (c.in_default.in_default-own.rest.0.1, c.in_default.in_default-own.rest.1)
 
 pub returns-in-2 : goal.returns-in-2
 unfolding own_data_by

@@ -38,4 +38,4 @@ unfolding own_data_by kind_of member
 returns-in_default c =
     let keys : List (List ℕ) = (3 ∷ 8 ∷ []) ∷ (2 ∷ 5 ∷ 11 ∷ []) ∷ (10 ∷ []) ∷ (9 ∷ []) ∷ (6 ∷ 12 ∷ []) ∷ (7 ∷ 14 ∷ []) ∷ [] in
     let named = c.requires in
-    λ w. rw (blank_else keys tt _ ((c.in_default.rest, named.0), named.1))
+    λ w. rw (blank_else keys tt _ ((c.in_default.in_default-own.rest, named.0), named.1))

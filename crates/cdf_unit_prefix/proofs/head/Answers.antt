@@ -67,7 +67,7 @@ returns-then-not-is_known c =
 
 pub returns : goal.returns
 unfolding head_of
-returns-then-s-p c =
+returns c =
     rw (
       ← c.prefix-p.ensures.is,
       le-ltb _ _ c.if-s-p.false,

@@ -9,4 +9,4 @@ returns-then-root c = rw (c.if-root.true, c.limit-most.ensures)
 
 pub returns : goal.returns
 unfolding length_fits
-returns-then-root c = rw c.if-root.false
+returns c = rw c.if-root.false

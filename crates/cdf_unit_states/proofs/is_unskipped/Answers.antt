@@ -1,5 +1,5 @@
 -- Below 32 by computation; from there on both sides are false.
-use mathlib.Core.Bool.{not, ◌&&◌, and_false}
+use mathlib.Core.Bool.{not, ◌&&◌, and-false}
 use native.Mathlib.Omega.{arith}
 use borrow.Author.Rules.{rules}
 use borrow.Author.Tests.{le-ltb}
@@ -11,5 +11,5 @@ use Rattle.cdf_unit_states.proofs.is_unskipped.Goals as goal
 pub returns : goal.returns
 unfolding skipped
 returns c =
-    by_bit _ (λ k. (leb 1 k && ltb k states_end) && not (eqb k (skipped k))) tt (λ k h. rw (le-ltb k states_end (omega arith), and_false))
+    by_bit _ (λ k. (leb 1 k && ltb k states_end) && not (eqb k (skipped k))) tt (λ k h. rw (le-ltb k states_end (omega arith), and-false))
     c.args.state

@@ -47,4 +47,4 @@ returns-in_default c =
     (of_none
     ((entity_skipped ∷ []) ∷ (ordered_skipped ∷ []) ∷ (relation_skipped ∷ []) ∷ (template_skipped ∷ []) ∷ (call_skipped ∷ []) ∷ (file_skipped ∷ [])
     ∷ (er_skipped ∷ []) ∷ (stream_skipped ∷ []) ∷ [])
-    tt c.args.state _ c.skipped_state.ensures c.in_default.rest)
+    tt c.args.state _ c.skipped_state.ensures c.in_default.in_default-own.rest)

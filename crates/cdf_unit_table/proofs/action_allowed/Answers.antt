@@ -20,4 +20,4 @@ returns-in-10 c = rw c.in-10.is (simp or-false)
 
 pub returns-in_default : goal.returns-in_default
 unfolding known action_allowed
-returns-in_default c = none_else ((10 ∷ []) ∷ (9 ∷ []) ∷ (5 ∷ 8 ∷ []) ∷ []) tt _ _ c.in_default.rest
+returns-in_default c = none_else ((10 ∷ []) ∷ (9 ∷ []) ∷ (5 ∷ 8 ∷ []) ∷ []) tt _ _ c.in_default.in_default-own.rest

@@ -25,4 +25,4 @@ pub returns-in_default : goal.returns-in_default
 unfolding member
 returns-in_default c =
     let known = (ordered_source ∷ []) ∷ (ordered_new ∷ []) ∷ (relation_source ∷ []) ∷ (relation_new ∷ []) ∷ [] in
-    (no_state known entity_key tt _ c.in_default.rest, no_state known relation_key tt _ c.in_default.rest)
+    (no_state known entity_key tt _ c.in_default.in_default-own.rest, no_state known relation_key tt _ c.in_default.in_default-own.rest)

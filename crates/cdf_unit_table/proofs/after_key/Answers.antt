@@ -24,4 +24,4 @@ returns-in-29 c = rw c.in-29.is
 pub returns-in_default : goal.returns-in_default
 unfolding member
 returns-in_default c =
-    no_state ((entity_keys ∷ []) ∷ (entity_new ∷ []) ∷ (template_keys ∷ []) ∷ (template_new ∷ []) ∷ []) template_key tt _ c.in_default.rest
+    no_state ((entity_keys ∷ []) ∷ (entity_new ∷ []) ∷ (template_keys ∷ []) ∷ (template_new ∷ []) ∷ []) template_key tt _ c.in_default.in_default-own.rest

@@ -15,4 +15,4 @@ returns-in-27 c = rw c.in-27.is
 
 pub returns-in_default : goal.returns-in_default
 unfolding member
-returns-in_default c = no_state ((entity_new ∷ []) ∷ (template_new ∷ []) ∷ []) temporary_key tt _ c.in_default.rest
+returns-in_default c = no_state ((entity_new ∷ []) ∷ (template_new ∷ []) ∷ []) temporary_key tt _ c.in_default.in_default-own.rest

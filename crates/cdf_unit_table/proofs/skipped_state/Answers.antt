@@ -102,7 +102,7 @@ returns-then-state-le-ENTITY_SKIPPED c =
 
 pub returns : goal.returns
 unfolding skipped_by
-returns-then-state-lt-STREAM_NEW c =
+returns c =
     rw (
       le-ltb _ 1 c.if-state-lt-STREAM_NEW.false,
       lt-leb _ _ c.if-state-le-STREAM_SKIPPED.false,

@@ -76,4 +76,4 @@ unfolding member
 returns-in_default c =
     no_child
     ((14 ∷ []) ∷ (12 ∷ []) ∷ (11 ∷ []) ∷ (8 ∷ []) ∷ (7 ∷ []) ∷ (6 ∷ []) ∷ (10 ∷ []) ∷ (5 ∷ 9 ∷ []) ∷ (3 ∷ []) ∷ (4 ∷ 13 ∷ []) ∷ (2 ∷ []) ∷ [])
-    tt _ _ c.in_default.rest
+    tt _ _ c.in_default.in_default-own.rest

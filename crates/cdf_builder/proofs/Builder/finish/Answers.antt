@@ -43,4 +43,4 @@ pub returns-then-not-is_completed : goal.returns-then-not-is_completed
 returns-then-not-is_completed c = sym (asked c.before ∙ rw (not-true c.is_completed.result c.if-not-is_completed.true-raw))
 
 pub returns : goal.returns
-returns-then-not-is_fit c = sym (asked c.before ∙ rw (not-false c.is_completed.result c.if-not-is_completed.false-raw))
+returns c = sym (asked c.before ∙ rw (not-false c.is_completed.result c.if-not-is_completed.false-raw))
