@@ -82,10 +82,10 @@ abbrev pub list_at : ℕ → ℕ → List UnitRequest → Val
 list_at b o rs = slice_val (b, o) (length rs)
 
 abbrev pub ListOf : Lft → ℕ → ℕ → GName → List UnitRequest → Fml
-ListOf κ b o γ rs = (ShrSlice (named 1) κ Q.the_row).own_val (requests_at b o γ rs) (list_at b o rs ∷ [])
+ListOf κ b o γ rs = (ShrSlice (named 1) κ Q.the_row).own (requests_at b o γ rs) (list_at b o rs ∷ [])
 
 abbrev pub TextOf : Lft → ℕ → ℕ → GName → List ℕ → Fml
-TextOf κ b o γ ts = (ShrSlice (named 2) κ u8).own_val (bytes_at b o γ ts) (slice_at b o ts ∷ [])
+TextOf κ b o γ ts = (ShrSlice (named 2) κ u8).own (bytes_at b o γ ts) (slice_at b o ts ∷ [])
 
 -- All that is lent to either function: the bytes of a buffer, a list and a text, each with its lifetime, the share of that lifetime's token, its
 -- place of memory and its ghost name.

@@ -29,7 +29,7 @@ abbrev pub slice_at : ℕ → ℕ → List ℕ → Val
 slice_at b o xs = slice_val (b, o) (length xs)
 
 abbrev pub Holds : Lft → ℕ → ℕ → GName → List ℕ → Fml
-Holds κ b o γ xs = (MutSlice (named 0) κ u8).own_val (bytes_at b o γ xs) (slice_at b o xs ∷ [])
+Holds κ b o γ xs = (MutSlice (named 0) κ u8).own (bytes_at b o γ xs) (slice_at b o xs ∷ [])
 
 -- The holder at κ, whose token of share q is in its open borrow, lends for ν.
 module _ (κ ν : Lft) (q : Share) (b o : ℕ) (γ : GName) where

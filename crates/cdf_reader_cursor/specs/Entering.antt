@@ -31,7 +31,7 @@ behind c count top h = record {
 -- In a unit that admits others, in this state: it is the innermost of so many, and these are around it, with these ranks.
 abbrev pub inside : Ranked → ℕ → ℕ → Open → Open → Open → ℕ → ℕ → ℕ → Cursor
 inside h state count o1 o2 o3 r1 r2 r3 = record {
-  position = h.unit.own_val;
+  position = h.unit.own;
   count = count;
   top = record { state = state; start = h.unit.start; end = h.unit.end };
   o1 = o1;

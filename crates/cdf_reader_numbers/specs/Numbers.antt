@@ -66,7 +66,7 @@ answer_numbers r part =
     ∷ r.handed.unit.id
     ∷ r.handed.unit.action
     ∷ r.handed.unit.start
-    ∷ r.handed.unit.own_val
+    ∷ r.handed.unit.own
     ∷ r.handed.unit.end
     ∷ part.start
     ∷ part.size

@@ -35,7 +35,7 @@ entry_of t =
     ∷ t.handed.unit.id
     ∷ t.handed.unit.action
     ∷ t.handed.unit.start
-    ∷ t.handed.unit.own_val
+    ∷ t.handed.unit.own
     ∷ t.handed.unit.end
     ∷ t.handed.depth
     ∷ t.handed.rank

@@ -59,8 +59,8 @@ module _ {A : Type 0} (fold : A → Ranked → A) (l : Layout) (s : List ℕ) (n
 
   -- A unit was handed out: it lies in the bytes, the place behind it fits, and it is folded in.
   pub record Turn (a : Reply) (h : A) : Type 0 where
-    pub own : a.handed.unit.start + prefix_of l ≤ a.handed.unit.own_val
-    pub end : a.handed.unit.own_val ≤ a.handed.unit.end
+    pub own : a.handed.unit.start + prefix_of l ≤ a.handed.unit.own
+    pub end : a.handed.unit.own ≤ a.handed.unit.end
     pub within : a.handed.unit.end ≤ length s
     pub fit : fits l (length s) a.place ≡ true
     pub next : Going (next_of l s a.place) (fold h a.handed)

@@ -130,8 +130,8 @@ module _ (l : Layout) (s : List ℕ) where
   -- A unit was handed out, with the depth and rank that the list gives: it lies in the bytes, at most four are open behind it, where the
   -- place fits, and the next answer is that of the step behind it.
   pub record Turn (before : List Unit) (a : Reply) : Type 0 where
-    pub own : a.handed.unit.start + prefix_of l ≤ a.handed.unit.own_val
-    pub end : a.handed.unit.own_val ≤ a.handed.unit.end
+    pub own : a.handed.unit.start + prefix_of l ≤ a.handed.unit.own
+    pub end : a.handed.unit.own ≤ a.handed.unit.end
     pub within : a.handed.unit.end ≤ length s
     pub ranked : a.handed ≡ standing before a.handed.unit
     pub few : length a.place.units ≤ 4

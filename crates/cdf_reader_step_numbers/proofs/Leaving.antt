@@ -50,7 +50,7 @@ module _ (l : Layout) (s before : List ℕ) (c : Cursor) (at : c ≡ cursor_of (
 
   pub handed : t.number ≡ 0 → (after answer : List ℕ) → after ≡ numbers_of Then →
       (let h = t.handed in
-      answer ≡ 0 ∷ h.unit.id ∷ h.unit.action ∷ h.unit.start ∷ h.unit.own_val ∷ h.unit.end ∷ 0 ∷ 0 ∷ h.depth ∷ h.rank ∷ []) →
+      answer ≡ 0 ∷ h.unit.id ∷ h.unit.action ∷ h.unit.start ∷ h.unit.own ∷ h.unit.end ∷ 0 ∷ 0 ∷ h.depth ∷ h.rank ∷ []) →
       Stepped Due before 0 after answer
   unfolding entering
   handed none after answer wrote told =

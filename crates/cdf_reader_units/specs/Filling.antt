@@ -10,7 +10,7 @@ use Rattle.cdf_reader_units.specs.declared.Filled.{Filled}
 -- The seven numbers of a unit: id, action, start, own end, end, depth and rank.
 abbrev pub unit_numbers : Ranked → List ℕ
 unit_numbers r =
-    r.unit.id ∷ r.unit.action ∷ r.unit.start ∷ r.unit.own_val ∷ r.unit.end ∷ r.depth ∷ r.rank ∷ []
+    r.unit.id ∷ r.unit.action ∷ r.unit.start ∷ r.unit.own ∷ r.unit.end ∷ r.depth ∷ r.rank ∷ []
 
 unfoldable pub units_numbers : List Ranked → List ℕ
 units_numbers [] = []

@@ -12,7 +12,7 @@ first = layout_of First
 -- A unit as seven numbers; a batch as its number and offset, how many units and these.
 abbrev in_numbers : Ranked → List ℕ
 in_numbers r =
-    r.unit.id ∷ r.unit.action ∷ r.unit.start ∷ r.unit.own_val ∷ r.unit.end ∷ r.depth ∷ r.rank ∷ []
+    r.unit.id ∷ r.unit.action ∷ r.unit.start ∷ r.unit.own ∷ r.unit.end ∷ r.depth ∷ r.rank ∷ []
 
 abbrev pub told : Batch → List (List ℕ)
 told b = (b.number ∷ b.offset ∷ length b.units ∷ []) ∷ map in_numbers b.units

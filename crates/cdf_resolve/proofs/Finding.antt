@@ -37,7 +37,7 @@ abbrev pub starts_of : List Ranked → List ℕ
 starts_of seen = map (λ (r : Ranked). r.unit.start) seen
 
 abbrev pub owns_of : List Ranked → List ℕ
-owns_of seen = map (λ (r : Ranked). r.unit.own_val) seen
+owns_of seen = map (λ (r : Ranked). r.unit.own) seen
 
 abbrev pub ranks_of : List Ranked → List ℕ
 ranks_of seen = map (λ (r : Ranked). r.rank) seen
@@ -78,7 +78,7 @@ module _ (l : Layout) (s : List ℕ) (u : Unit) where
       (f : FoundAt l s (padded n (starts_of seen)) (padded n (owns_of seen)) (length seen) u i) where
     at_entry : (j : ℕ) → j < length seen →
         test_at seen j ≡ alike_at l s u (get_or (padded n (starts_of seen)) j 0) (get_or (padded n (owns_of seen)) j 0)
-    at_entry j h = rw (entry n (λ (r : Ranked). r.unit.start) seen j h, entry n (λ (r : Ranked). r.unit.own_val) seen j h)
+    at_entry j h = rw (entry n (λ (r : Ranked). r.unit.start) seen j h, entry n (λ (r : Ranked). r.unit.own) seen j h)
 
     pub found_none : i ≡ length seen → held_for l s seen u ≡ none
     unfolding held_for

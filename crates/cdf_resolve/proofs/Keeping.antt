@@ -42,13 +42,13 @@ module _ (l : Layout) (s : List ℕ) (p : Pass) (t : Tally) (starts owns ranks :
     count = h;
     lies = k.lies;
     full_starts = rw k.starts_are (entries 256 (λ (r : Ranked). r.unit.start) p.seen k.few);
-    full_owns = rw k.owns_are (entries 256 (λ (r : Ranked). r.unit.own_val) p.seen k.few);
+    full_owns = rw k.owns_are (entries 256 (λ (r : Ranked). r.unit.own) p.seen k.few);
     full_ranks = rw k.ranks_are (entries 256 (λ (r : Ranked). r.rank) p.seen k.few);
   }
 
   -- What is found in the arrays.
   module _ (u : Unit) (i : ℕ) (f : FoundAt l s starts owns t.templates u i) where
-    found : FoundAt l s (padded 256 (map (λ (r : Ranked). r.unit.start) p.seen)) (padded 256 (map (λ (r : Ranked). r.unit.own_val) p.seen))
+    found : FoundAt l s (padded 256 (map (λ (r : Ranked). r.unit.start) p.seen)) (padded 256 (map (λ (r : Ranked). r.unit.own) p.seen))
         (length p.seen) u i
     found = rw (← k.starts_are, ← k.owns_are, ← k.templates) f
 
@@ -77,26 +77,26 @@ module _ (l : Layout) (s : List ℕ) (p : Pass) (t : Tally) (starts owns ranks :
       })
 
   -- and where they are not.
-  module _ (o : Ranked) (room : t.templates ≡ 256 → ⊥) (w : Within l (length s) o.unit.start o.unit.own_val) where
+  module _ (o : Ranked) (room : t.templates ≡ 256 → ⊥) (w : Within l (length s) o.unit.start o.unit.own) where
     few : length p.seen < 256
     few = omega (arith, k.few, k.templates, room)
 
-    lie-more : Lies l (length s) (set starts t.templates o.unit.start) (set owns t.templates o.unit.own_val) (t.templates + 1)
+    lie-more : Lies l (length s) (set starts t.templates o.unit.start) (set owns t.templates o.unit.own) (t.templates + 1)
     lie-more =
         let r = ready' in
         record {
           first = omega (arith, few, k.templates, length-set starts t.templates o.unit.start, r.0);
-          second = omega (arith, few, k.templates, length-set owns t.templates o.unit.own_val, r.1);
+          second = omega (arith, few, k.templates, length-set owns t.templates o.unit.own, r.1);
           each = up_to
-              (λ j. Within l (length s) (get_or (set starts t.templates o.unit.start) j 0) (get_or (set owns t.templates o.unit.own_val) j 0))
+              (λ j. Within l (length s) (get_or (set starts t.templates o.unit.start) j 0) (get_or (set owns t.templates o.unit.own) j 0))
               t.templates
               (λ j h.
               let other : j ≡ t.templates → ⊥ = λ z. omega (arith, h, z) in
-              rw (get_or-set_other starts t.templates j o.unit.start 0 other, get_or-set_other owns t.templates j o.unit.own_val 0 other)
+              rw (get_or-set_other starts t.templates j o.unit.start 0 other, get_or-set_other owns t.templates j o.unit.own 0 other)
               (k.lies.each j h))
               (rw (
                 get_or-set_same starts t.templates o.unit.start 0 (omega (arith, few, k.templates, r.0)),
-                get_or-set_same owns t.templates o.unit.own_val 0 (omega (arith, few, k.templates, r.1)),
+                get_or-set_same owns t.templates o.unit.own 0 (omega (arith, few, k.templates, r.1)),
               )
               w);
         }
@@ -104,13 +104,13 @@ module _ (l : Layout) (s : List ℕ) (p : Pass) (t : Tally) (starts owns ranks :
         ready' : (length starts ≡ 256) × (length owns ≡ 256)
         ready' = (
           rw k.starts_are (entries 256 (λ (r : Ranked). r.unit.start) p.seen k.few),
-          rw k.owns_are (entries 256 (λ (r : Ranked). r.unit.own_val) p.seen k.few),
+          rw k.owns_are (entries 256 (λ (r : Ranked). r.unit.own) p.seen k.few),
         )
 
     hold-more : (worst : Worst) →
         worst ≡ cond (is_there (held_for l s p.seen o.unit)) (doubled_at p.worst o.unit.start) p.worst →
         Keeps l (length s) (add_of l s p o) (record { templates = t.templates + 1; count = t.count; worst = worst })
-        (set starts t.templates o.unit.start) (set owns t.templates o.unit.own_val) (set ranks t.templates o.rank)
+        (set starts t.templates o.unit.start) (set owns t.templates o.unit.own) (set ranks t.templates o.rank)
     hold-more worst e =
         let size = longer l s p.seen o in
         rw (add-held l s p o few) (record {
@@ -120,7 +120,7 @@ module _ (l : Layout) (s : List ℕ) (p : Pass) (t : Tally) (starts owns ranks :
           worst = e;
           lies = lie-more;
           starts_are = rw k.starts_are (set_more (λ (r : Ranked). r.unit.start) p.seen o t.templates k.templates few);
-          owns_are = rw k.owns_are (set_more (λ (r : Ranked). r.unit.own_val) p.seen o t.templates k.templates few);
+          owns_are = rw k.owns_are (set_more (λ (r : Ranked). r.unit.own) p.seen o t.templates k.templates few);
           ranks_are = rw k.ranks_are (set_more (λ (r : Ranked). r.rank) p.seen o t.templates k.templates few);
         })
 
@@ -128,14 +128,14 @@ module _ (l : Layout) (s : List ℕ) (p : Pass) (t : Tally) (starts owns ranks :
     module _ (i : ℕ) (f : FoundAt l s starts owns t.templates o.unit i) where
       pub hold-new : i ≡ t.templates →
           Keeps l (length s) (add_of l s p o) (record { templates = t.templates + 1; count = t.count; worst = t.worst })
-          (set starts t.templates o.unit.start) (set owns t.templates o.unit.own_val) (set ranks t.templates o.rank)
+          (set starts t.templates o.unit.start) (set owns t.templates o.unit.own) (set ranks t.templates o.rank)
       unfolding is_there
       hold-new e = hold-more t.worst (rw (kept-none o.unit i f e) k.worst)
 
       pub hold-doubled : (i ≡ t.templates → ⊥) →
           Keeps l (length s) (add_of l s p o)
           (record { templates = t.templates + 1; count = t.count; worst = doubled_at t.worst o.unit.start })
-          (set starts t.templates o.unit.start) (set owns t.templates o.unit.own_val) (set ranks t.templates o.rank)
+          (set starts t.templates o.unit.start) (set owns t.templates o.unit.own) (set ranks t.templates o.rank)
       unfolding is_there
       hold-doubled n = hold-more _ (rw (kept-some o.unit i f n, k.worst))
 

@@ -78,7 +78,7 @@ module _ (l : Layout) (s : List ℕ) (o : Orderly l s) (group : is_group (listin
     unfolding step_of standing
     owner-lies key owner = go g.before refl
       where
-        go : (before : List Unit) → g.before ≡ before → Within l (length s) w.last.unit.start w.last.unit.own_val
+        go : (before : List Unit) → g.before ≡ before → Within l (length s) w.last.unit.start w.last.unit.own
         go [] e =
             let t = loop.turned l s g.before a g.going z in
             absurd (root-other a.handed.unit _ (t.next.all ∙ ap (λ b. reverse_aux b (a.handed.unit ∷ t.next.units)) e) key)
@@ -180,14 +180,14 @@ module _ (l : Layout) (s : List ℕ) (o : Orderly l s) (group : is_group (listin
           }
 
   -- The root's own data end with its prefix.
-  pub root_width : (a : Reply) → a ≡ first_of l s → a.handed.unit.own_val ≡ prefix_of l
+  pub root_width : (a : Reply) → a ≡ first_of l s → a.handed.unit.own ≡ prefix_of l
   unfolding outcome afterwards due is_group ranked_units ranked standing
   root_width a e = go (listing l s).units refl (ap outcome e ∙ begins l s) group
     where
       go : (us : List Unit) → (listing l s).units ≡ us → outcome a ≡ due (afterwards (check_of l s)) (ranked [] us) 0 → is_group us ≡ true →
-          a.handed.unit.own_val ≡ prefix_of l
+          a.handed.unit.own ≡ prefix_of l
       go [] f x g = absurd (false≢true g)
-      go (u ∷ us) f x g = ap (λ (r : Outcome). r.handed.unit.own_val) x ∙ o.root u us f (eqb-true u.id er_group g)
+      go (u ∷ us) f x g = ap (λ (r : Outcome). r.handed.unit.own) x ∙ o.root u us f (eqb-true u.id er_group g)
 
 -- A unit with a key behind it, by its kind.
 module _ (l : Layout) (s : List ℕ) (p : Pass) (o : Ranked) (id : ℕ) where

@@ -45,7 +45,7 @@ pub record Keeps (l : Layout) (n : ℕ) (p : Pass) (t : Tally) (starts owns rank
   pub worst : t.worst ≡ p.worst
   pub lies : Lies l n starts owns t.templates
   pub starts_are : starts ≡ padded most_templates (map (λ (r : Ranked). r.unit.start) p.seen)
-  pub owns_are : owns ≡ padded most_templates (map (λ (r : Ranked). r.unit.own_val) p.seen)
+  pub owns_are : owns ≡ padded most_templates (map (λ (r : Ranked). r.unit.own) p.seen)
   pub ranks_are : ranks ≡ padded most_templates (map (λ (r : Ranked). r.rank) p.seen)
 
 -- If they are before, they are those of what comes of it.

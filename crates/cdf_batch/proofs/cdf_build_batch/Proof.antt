@@ -126,7 +126,7 @@ module _ {M : Type 1} {𝓤 : Ura M} (𝓛 : Logic 𝓤) (mem : Memory → SProp
       (and_then ! (load ! (from ! (stop !)) (look ! 33 refl)) (and_then ! (load ! (from ! (stop !)) (look ! 17 refl))
       (and_then ! (load ! (from ! (stop !)) (look ! 15 refl)) (no_more !)))) (λ u₅.
       use1 𝓛
-      (later (some (λ (r : Ran). (‵ ftrue ⊛ ‵ ((R.the_row).own_val r (u₅ ∷ [])))
+      (later (some (λ (r : Ran). (‵ ftrue ⊛ ‵ ((R.the_row).own r (u₅ ∷ [])))
       ⊛ raw (ensured 𝓛 begun.ended (begun.clauses 𝓛 mem run) tt (p, (length xs, (length ys, tt))) tt r))))
       (id⊢ 𝓤 _) $ await ! tt $ pick ! (λ r₅. split ! $ move ! (1 ∷ []) $
       use1 𝓛
@@ -159,7 +159,7 @@ module _ {M : Type 1} {𝓤 : Ura M} (𝓛 : Logic 𝓤) (mem : Memory → SProp
       (and_then ! (load ! (from ! (stop !)) (look ! 26 refl)) (and_then ! (load ! (from ! (stop !)) (look ! 24 refl)) (no_more !))))) (λ u₆.
       use1 𝓛
       (later (some (λ (r : Ran).
-      ((‵ (flft (ν ∷ []) full_share) ⊛ ‵ (flft κ₁ q₁) ⊛ ‵ (flft κ₂ q₂) ⊛ ‵ ftrue) ⊛ ‵ ((R.the_row).own_val r (u₆ ∷ [])))
+      ((‵ (flft (ν ∷ []) full_share) ⊛ ‵ (flft κ₁ q₁) ⊛ ‵ (flft κ₂ q₂) ⊛ ‵ ftrue) ⊛ ‵ ((R.the_row).own r (u₆ ∷ [])))
       ⊛ raw (ensured 𝓛 all.ended (all.clauses 𝓛 mem run) (ν ∷ [], (κ₁, (κ₂, tt))) (given 𝓛 mem run z p r₅ xs ν δ) tt r))))
       (id⊢ 𝓤 _) $ await ! tt $ pick ! (λ r₆. split ! $ move ! (1 ∷ []) $
       use1 𝓛
@@ -182,7 +182,7 @@ module _ {M : Type 1} {𝓤 : Ura M} (𝓛 : Logic 𝓤) (mem : Memory → SProp
       calls_at ! fm (Second 𝓛 mem run) known-second (to-second 𝓛 mem run z p r₆)
       (and_then ! (load ! (from ! (stop !)) (look ! 33 refl)) (and_then ! (load ! (from ! (stop !)) (look ! 23 refl)) (no_more !))) (λ u₇.
       use1 𝓛
-      (later (some (λ (r : Ran). (‵ ftrue ⊛ ‵ ((R.the_row).own_val r (u₇ ∷ [])))
+      (later (some (λ (r : Ran). (‵ ftrue ⊛ ‵ ((R.the_row).own r (u₇ ∷ [])))
       ⊛ raw (ensured 𝓛 second.ended (second.clauses 𝓛 mem run) tt (p, (r₆, tt)) tt r))))
       (id⊢ 𝓤 _) $ await ! tt $ pick ! (λ r₇. split ! $ move ! (1 ∷ []) $
       use1 𝓛
@@ -214,7 +214,7 @@ module _ {M : Type 1} {𝓤 : Ura M} (𝓛 : Logic 𝓤) (mem : Memory → SProp
       (and_then ! (load ! (from ! (stop !)) (look ! 26 refl)) (and_then ! (load ! (from ! (stop !)) (look ! 24 refl)) (no_more !))))) (λ u₈.
       use1 𝓛
       (later (some (λ (r : Ran).
-      ((‵ (flft (μ ∷ []) full_share) ⊛ ‵ (flft κ₁ q₁) ⊛ ‵ (flft κ₂ q₂) ⊛ ‵ ftrue) ⊛ ‵ ((R.the_row).own_val r (u₈ ∷ [])))
+      ((‵ (flft (μ ∷ []) full_share) ⊛ ‵ (flft κ₁ q₁) ⊛ ‵ (flft κ₂ q₂) ⊛ ‵ ftrue) ⊛ ‵ ((R.the_row).own r (u₈ ∷ [])))
       ⊛ raw (ensured 𝓛 all.ended (all.clauses 𝓛 mem run) (μ ∷ [], (κ₁, (κ₂, tt))) (given 𝓛 mem run z p r₇ z₆.1.0 μ ε) tt r))))
       (id⊢ 𝓤 _) $ await ! tt $ pick ! (λ r₈. split ! $ move ! (1 ∷ []) $
       use1 𝓛
@@ -237,7 +237,7 @@ module _ {M : Type 1} {𝓤 : Ura M} (𝓛 : Logic 𝓤) (mem : Memory → SProp
       calls_at ! fm (Tell 𝓛 mem run) known-told (to-told 𝓛 mem run z p r₈)
       (and_then ! (load ! (from ! (stop !)) (look ! 33 refl)) (and_then ! (load ! (from ! (stop !)) (look ! 19 refl)) (no_more !))) (λ u.
       use1 𝓛
-      (later (some (λ (q : Batched). (‵ ftrue ⊛ ‵ ((B.the_row).own_val q (u ∷ [])))
+      (later (some (λ (q : Batched). (‵ ftrue ⊛ ‵ ((B.the_row).own q (u ∷ [])))
       ⊛ raw (ensured 𝓛 told.ended (told.clauses 𝓛 mem run) tt (p, (r₈, tt)) tt q))))
       (id⊢ 𝓤 _) $ await ! tt $ pick ! (λ q. split ! $ move ! (1 ∷ []) $
       use1 𝓛

@@ -36,7 +36,7 @@ loop-at-smaller c = omega arith
 pub loop-at-preserved : goal.loop-at-preserved
 loop-at-preserved c =
     let so = c.loop-at in
-    copied_lent so.at 8 so.invariant (omega arith) (omega arith) (omega arith) (omega arith) c.copy_eight.new.0 c.copy_eight.ensures
+    copied_lent so.at 8 so.invariant (omega arith) (omega arith) (omega arith) (omega arith) c.copy_eight.new.tail c.copy_eight.ensures
 
 pub slice_bounds-copy_eight-count-2 : goal.slice_bounds-copy_eight-count-2
 slice_bounds-copy_eight-count-2 c = omega arith
@@ -52,15 +52,15 @@ copy_eight-requires-2 c =
     (enough last 8 bytes (omega arith), enough last 8 so.tail (omega arith))
 
 -- The last eight begin where all before them are copied, and end where the bytes end.
-ended : (c : goal.After-slice_known-2-1 invariant_loop decreases_loop) →
+ended : (c : goal.After-slice_known-2-1) →
     let so = c.loop-at in
     let a = c.args in
     let last = length a.bytes.now - 8 in
-    Copied a.tail.now a.bytes.now (put_mid last (length so.tail - last) so.tail c.copy_eight-2.new.0) (last + 8)
+    Copied a.tail.now a.bytes.now (put_mid last (length so.tail - last) so.tail c.copy_eight-2.new.tail) (last + 8)
 ended c =
     let so = c.loop-at in
     let a = c.args in
-    copied_lent (length a.bytes.now - 8) 8 so.invariant (omega arith) (omega arith) (omega arith) (omega arith) c.copy_eight-2.new.0
+    copied_lent (length a.bytes.now - 8) 8 so.invariant (omega arith) (omega arith) (omega arith) (omega arith) c.copy_eight-2.new.tail
     c.copy_eight-2.ensures
 
 pub shape_of-tail : goal.shape_of-tail

@@ -12,6 +12,6 @@ returns c =
     let a = c.args in
     let bytes = a.bytes.now in
     let none : Copied a.tail.now bytes a.tail.now 0 = record { within = omega arith; is = refl; long = refl } in
-    let four = copied_part 0 4 none (omega arith) (omega arith) (omega arith) (omega arith) c.copy_four.new.0 c.copy_four.ensures in
-    copied_all (copied_lent (length bytes - 4) 4 four (omega arith) (omega arith) (omega arith) (omega arith) c.copy_four-2.new.0
+    let four = copied_part 0 4 none (omega arith) (omega arith) (omega arith) (omega arith) c.copy_four.new.tail c.copy_four.ensures in
+    copied_all (copied_lent (length bytes - 4) 4 four (omega arith) (omega arith) (omega arith) (omega arith) c.copy_four-2.new.tail
     c.copy_four-2.ensures) (omega arith)

@@ -25,7 +25,7 @@ returns-then-has_room c =
     let put = c.before.before in
     let then = put.before.before in
     let a = c.args in
-    wrote a.at _ a.bytes.now a.buffer.now refl _ c.has_room.ensures c.if-has_room.true c.copy.new.0
+    wrote a.at _ a.bytes.now a.buffer.now refl _ c.has_room.ensures c.if-has_room.true c.copy.new.tail
     (c.copy.ensures ∙ onto_lent a.at a.bytes.now a.buffer.now (room then))
 
 pub returns-else-has_room : goal.returns-else-has_room

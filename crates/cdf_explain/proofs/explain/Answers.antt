@@ -18,14 +18,14 @@ use Rattle.cdf_explain.proofs.Explaining.{Told, told-end, closed_few}
 use Rattle.cdf_explain.proofs.explain.Goals as goal
 
 -- The bytes, and the layout that they are read in.
-abbrev bytes : goal.At-loop-a invariant_loop decreases_loop → List ℕ
+abbrev bytes : goal.At-loop-a → List ℕ
 bytes turn = turn.args.s.now
 
-abbrev l : goal.At-loop-a invariant_loop decreases_loop → Layout
+abbrev l : goal.At-loop-a → Layout
 l turn = layout_of turn.edition_of-edition.result
 
 -- What is told where the loop ends.
-end_of : (turn : goal.At-loop-a invariant_loop decreases_loop) → (turn.loop-a.a.number ≡ 0 → ⊥) →
+end_of : (turn : goal.At-loop-a) → (turn.loop-a.a.number ≡ 0 → ⊥) →
     Told (l turn) (bytes turn) (outcome_reply turn.loop-a.a)
 end_of turn some =
     let s = bytes turn in
@@ -43,12 +43,12 @@ loop-a-init c =
     )
 
 -- A unit was handed out; so the place fits, and the step by 01's row is NEXT.
-here : (turn : goal.At-loop-a invariant_loop decreases_loop) → turn.loop-a.a.number ≡ 0 →
+here : (turn : goal.At-loop-a) → turn.loop-a.a.number ≡ 0 →
     Turn (l turn) (bytes turn) turn.loop-a.invariant.0.0 (outcome_reply turn.loop-a.a)
 here turn z =
     turned (l turn) (bytes turn) turn.loop-a.invariant.0.0 (outcome_reply turn.loop-a.a) turn.loop-a.invariant.0.1 z
 
-next : (c : goal.After-advance-a invariant_loop decreases_loop) →
+next : (c : goal.After-advance-a) →
     let turn = c.before.before.before.before.before in
     outcome_reply c.advance-a.result ≡ next_of (l turn) (bytes turn) (cursor_place c.loop-a.a.cursor)
 next c =

@@ -23,30 +23,30 @@ use Rattle.cdf_lookup_search.proofs.Searched.{nowhere, seek, lies_in, stays, goe
 use Rattle.cdf_lookup_search.proofs.walk.Goals as goal
 
 -- Where the start has been made, the bytes and what is asked for, at the head of the loop.
-abbrev begin : goal.At-loop-a invariant_loop decreases_loop → goal.After-first_as-a invariant_loop decreases_loop
+abbrev begin : goal.At-loop-a → goal.After-first_as-a
 begin turn = turn.before.before.before
 
 -- The layout that the bytes are read in.
-abbrev l : goal.At-loop-a invariant_loop decreases_loop → Layout
+abbrev l : goal.At-loop-a → Layout
 l turn = layout_of (begin turn).before.edition-of.result
 
-abbrev bytes : goal.At-loop-a invariant_loop decreases_loop → List ℕ
+abbrev bytes : goal.At-loop-a → List ℕ
 bytes turn = (begin turn).before.before.before.before.before.before.args.s.now
 
-abbrev asked : goal.At-loop-a invariant_loop decreases_loop → Query
+abbrev asked : goal.At-loop-a → Query
 asked turn =
     let a = (begin turn).before.before.before.before.before.before.args in
     query a.template.now a.kind a.key.now a.field.now
 
 -- The unit in hand lies in the bytes, and the loop goes on from it.
-in_hand : (turn : goal.At-loop-a invariant_loop decreases_loop) → turn.loop-a.a.number ≡ 0 →
+in_hand : (turn : goal.At-loop-a) → turn.loop-a.a.number ≡ 0 →
     Turn (seek (l turn) (bytes turn) (asked turn)) (l turn) (bytes turn) Seeking (reply_of turn.loop-a.a) turn.loop-a.state
 in_hand turn z =
     turned (seek (l turn) (bytes turn) (asked turn)) (l turn) (bytes turn) Seeking (reply_of turn.loop-a.a) turn.loop-a.state turn.loop-a.invariant.0 z
 
 -- Where it was folded in, or the search is over.
-module _ (step : goal.Joined-not-is_over invariant_loop decreases_loop) where
-  abbrev head : goal.At-loop-a invariant_loop decreases_loop
+module _ (step : goal.Joined-not-is_over) where
+  abbrev head : goal.At-loop-a
   head = step.before.before.before.before.before
 
   abbrev taken : head.loop.a.number ≡ 0
@@ -86,7 +86,7 @@ advance-state-requires c =
     lies_in (l turn) (bytes turn) (asked turn) (reply_of c.loop-a.a) c.loop-a.state (in_hand turn c.loop-a-test.true)
 
 -- The place fits, so a step from it by 01's row is NEXT.
-next : (c : goal.After-advance-a invariant_loop decreases_loop) →
+next : (c : goal.After-advance-a) →
     let turn = head c.before.before.before in
     reply_of c.advance-a.result ≡ next_of (l turn) (bytes turn) (view turn.loop.a.place)
 next c =

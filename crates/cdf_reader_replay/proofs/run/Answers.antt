@@ -12,13 +12,13 @@ use Rattle.cdf_reader_replay_spec.proofs.Replaying.{Running, long, fits_more, be
 use Rattle.cdf_reader_replay.proofs.run.Goals as goal
 
 -- The log is as long as it was,
-kept : (turn : goal.At-loop-k invariant_loop decreases_loop) → length turn.loop-k.log ≡ length turn.args.log.now
+kept : (turn : goal.At-loop-k) → length turn.loop-k.log ≡ length turn.args.log.now
 kept turn =
     let a = turn.args in
     long a.s.now a.calls.now a.log.now turn.requires turn.loop-k.invariant.0
 
 -- and has room for one more entry.
-room : (going : goal.In-loop-k invariant_loop decreases_loop) → going.loop-k.at + 11 ≤ length going.loop-k.log
+room : (going : goal.In-loop-k) → going.loop-k.at + 11 ≤ length going.loop-k.log
 room going =
     let a = going.args in
     fits_more a.s.now a.calls.now a.log.now going.requires going.loop-k.invariant.0 going.loop-k-test.true

@@ -14,11 +14,11 @@ unfolding name_row
 loop-count-init c = (begun c.args.s.now c.args.p c.args.list.now c.requires.1, refl)
 
 -- The edition is that of the bytes.
-edition : (turn : goal.At-loop-count invariant_loop decreases_loop) → let a = turn.args in a.edition ≡ edition_of a.s.now
+edition : (turn : goal.At-loop-count) → let a = turn.args in a.edition ≡ edition_of a.s.now
 edition turn = turn.requires.0
 
 -- The list keeps its length.
-kept : (turn : goal.At-loop-count invariant_loop decreases_loop) → length turn.loop-count.list ≡ length turn.args.list.now
+kept : (turn : goal.At-loop-count) → length turn.loop-count.list ≡ length turn.args.list.now
 kept turn = long _ _ _ turn.loop-count.invariant.0
 
 pub shape_of-list-then-a-ne0 : goal.shape_of-list-then-a-ne0

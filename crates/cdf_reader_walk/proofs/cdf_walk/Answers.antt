@@ -16,10 +16,10 @@ use Rattle.cdf_reader_walk.proofs.Walking.{ended_walk}
 use Rattle.cdf_reader_walk.proofs.cdf_walk.Goals as goal
 
 -- The bytes, and the layout that they are read in.
-abbrev bytes : goal.At-loop-a invariant_loop decreases_loop → List ℕ
+abbrev bytes : goal.At-loop-a → List ℕ
 bytes turn = turn.args.s.now
 
-abbrev l : goal.At-loop-a invariant_loop decreases_loop → Layout
+abbrev l : goal.At-loop-a → Layout
 l turn = layout_of turn.edition_of-edition.result
 
 pub loop-a-init : goal.loop-a-init
@@ -33,12 +33,12 @@ loop-a-init c =
     )
 
 -- A unit was handed out; so the place fits, and the step by 01's row is NEXT.
-here : (turn : goal.At-loop-a invariant_loop decreases_loop) → turn.loop-a.a.number ≡ 0 →
+here : (turn : goal.At-loop-a) → turn.loop-a.a.number ≡ 0 →
     Turn mix_of (l turn) (bytes turn) 0 (reply_of turn.loop-a.a) turn.loop-a.h
 here turn z =
     turned mix_of (l turn) (bytes turn) 0 (reply_of turn.loop-a.a) turn.loop-a.h turn.loop-a.invariant.0 z
 
-next : (c : goal.After-advance-a invariant_loop decreases_loop) →
+next : (c : goal.After-advance-a) →
     let turn = c.before.before.before.before.before.before.before in
     reply_of c.advance-a.result ≡ next_of (l turn) (bytes turn) (view c.loop-a.a.place)
 next c =

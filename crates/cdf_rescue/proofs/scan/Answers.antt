@@ -25,7 +25,7 @@ pub next_whole-start-requires : goal.next_whole-start-requires
 next_whole-start-requires c = c.loop-at.invariant.high
 
 -- There is an entry for one run more.
-few : (c : goal.After-next_whole-start invariant_loop decreases_loop) → c.loop-at.runs < 64
+few : (c : goal.After-next_whole-start) → c.loop-at.runs < 64
 few c = omega (arith, c.if-runs-eq64.false, c.loop-at.invariant.few)
 
 pub bounds-from-runs : goal.bounds-from-runs

@@ -15,17 +15,17 @@ use Rattle.cdf_rescue.proofs.Heading.{all-written}
 use Rattle.cdf_rescue.proofs.write_group.Goals as goal
 
 -- There are entries for all runs.
-few : (c : goal.In-loop-i invariant_loop decreases_loop) → c.loop-i.i < 64
+few : (c : goal.In-loop-i) → c.loop-i.i < 64
 few c = omega (arith, c.loop-i-test.true, c.loop-i.invariant.ready.most)
 
-next : (c : goal.In-loop-i invariant_loop decreases_loop) →
+next : (c : goal.In-loop-i) →
     let turn = c.loop-i in
     let a = c.args in
     Turn (layout_of a.edition) a.s.now a.out.now a.found.from a.found.to a.found.runs turn.at turn.place turn.i
     turn.out turn.invariant (get_or a.found.from turn.i 0) (get_or a.found.to turn.i 0)
 next c = turn _ _ _ _ _ _ _ _ _ _ c.loop-i.invariant c.loop-i-test.true
 
-end : (c : goal.After-loop-i invariant_loop decreases_loop) →
+end : (c : goal.After-loop-i) →
     let turn = c.loop-i in
     let a = c.args in
     Last (layout_of a.edition) a.s.now a.out.now a.found.from a.found.to a.found.runs turn.at turn.place turn.i
@@ -99,7 +99,7 @@ overflow_add-place-2 c =
     omega (arith, (end done).size, k.fits)
 
 -- All that was written: the last bytes, the prefix, and its length.
-written : (c : goal.After-slice_known-4-1 invariant_loop decreases_loop) →
+written : (c : goal.After-slice_known-4-1) →
     let done = c.before.before.before.before.before.before.before.before.before.before.before.before.before.before in
     let a = c.args in
     let l = layout_of a.edition in

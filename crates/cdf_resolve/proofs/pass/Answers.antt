@@ -21,13 +21,13 @@ use Rattle.cdf_resolve.proofs.Walking.{Walking, walk-begun, walk-over, walk-read
 use Rattle.cdf_resolve.proofs.pass.Goals as goal
 
 -- The head of the loop, where a unit is in hand, the bytes, and the layout that they are read in.
-abbrev bytes : goal.At-loop-a invariant_loop decreases_loop → List ℕ
+abbrev bytes : goal.At-loop-a → List ℕ
 bytes turn = turn.args.s.now
 
-abbrev l : goal.At-loop-a invariant_loop decreases_loop → Layout
+abbrev l : goal.At-loop-a → Layout
 l turn = layout_for (bytes turn)
 
-abbrev before : goal.At-loop-a invariant_loop decreases_loop → List ℕ
+abbrev before : goal.At-loop-a → List ℕ
 before turn = turn.args.list.now
 
 pub loop-a-init : goal.loop-a-init
@@ -51,8 +51,8 @@ meet-t-requires c =
     )
 
 -- A unit was in hand, and was met.
-module _ (c : goal.After-advance-a invariant_loop decreases_loop) where
-  abbrev head : goal.At-loop-a invariant_loop decreases_loop
+module _ (c : goal.After-advance-a) where
+  abbrev head : goal.At-loop-a
   head = c.before.before.before.before.before.before.before.before.before.before.before.before.before
 
   abbrev taken : head.loop.a.number ≡ 0

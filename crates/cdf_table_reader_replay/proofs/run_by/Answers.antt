@@ -14,13 +14,13 @@ use Rattle.cdf_table_reader_replay_spec.proofs.Turning.{goes, unheard, turned}
 use Rattle.cdf_table_reader_replay.proofs.run_by.Goals as goal
 
 -- There is room for all codes of the run; the log is as long as it was,
-kept : (turn : goal.At-loop-k invariant_loop decreases_loop) → length turn.loop-k.log ≡ length turn.args.log.now
+kept : (turn : goal.At-loop-k) → length turn.loop-k.log ≡ length turn.args.log.now
 kept turn =
     let a = turn.args in
     long a.s.now (map heard a.calls.now) a.log.now (omega (arith, turn.requires.1, length-map a.calls.now heard)) turn.loop-k.invariant
 
 -- and has room for one more entry.
-room : (going : goal.In-loop-k invariant_loop decreases_loop) → going.loop-k.at + 11 ≤ length going.loop-k.log
+room : (going : goal.In-loop-k) → going.loop-k.at + 11 ≤ length going.loop-k.log
 room going =
     let turn = going.before in
     omega (arith, kept turn, going.loop-k.invariant.eleven, going.requires.1, going.loop-k-test.true)

@@ -10,6 +10,7 @@ use Rattle.cdf_unit_data.specs.Data.{name_by, spelled}
 use Rattle.cdf_unit_data.specs.Standing.{row_bytes}
 use Rattle.cdf_unit_data.proofs.Names.{front-short, name-none, name-is, name_by_lem}
 use Rattle.cdf_unit_name.proofs.name.Goals as goal
+use Rattle.cdf_unit_name.proofs.name.Tie as tie
 
 pub returns-then-s-eq0 : goal.returns-then-s-eq0
 returns-then-s-eq0 c = name-none _ _ c.if-s-eq0.true
@@ -31,7 +32,7 @@ returns-then-s-count c =
     ∙ rw (le-leb 1 _ c.if-count-lt1.false, le-leb _ 32 c.if-count-gt32.false, lt-leb _ _ c.if-s-count.true))
 
 -- With a right count the bytes after it are spelled, by their front.
-right_count : (c : goal.After-name_front-front) →
+right_count : (c : tie.After-name_front-front) →
     let a = c.args in
     let s = a.s.now in
     name_by (row_bytes a.row.now) s ≡ spelled (get_or s 0 0) c.name_front-front.result

@@ -122,7 +122,7 @@ module _ {M : Type 1} {𝓤 : Ura M} (𝓛 : Logic 𝓤) (mem : Memory → SProp
       suffices ! _
       (ends_at 𝓛 batch.ended stayed (batch.clauses 𝓛 mem run) bound v q (tt, (zs, (tt, (tt, tt)))) (tt, (e, (tt, (tt, tt))))) $
       suffices ! _ (assoc∗ 𝓤 Had (fact 𝓤 (Is-due q zs)) (fact 𝓤 (Is-kept q))) $ says ! f.1 $ says ! f.0 $
-      rewrite ! 3 (λ (m : ℕ). ‵ ((MutSlice (named 0) κ₀ u8).own_val (bytes_at b o γ zs) (slice_val (b, o) m ∷ []))) e refl $
+      rewrite ! 3 (λ (m : ℕ). ‵ ((MutSlice (named 0) κ₀ u8).own (bytes_at b o γ zs) (slice_val (b, o) m ∷ []))) e refl $
       nothing ! $ move ! (3 ∷ 0 ∷ []) $ join ! $ move ! (2 ∷ 0 ∷ []) $ join ! $ move ! (1 ∷ 0 ∷ []) $ join ! $ frame ! $
       nothing ! $ move ! (3 ∷ 0 ∷ []) $ fjoin ! $ move ! (2 ∷ 0 ∷ []) $ fjoin ! $ move ! (1 ∷ 0 ∷ []) $ fjoin ! $
       owned ! P.the_row (Is P.the_row) (LL.makes P.the_type P'.the_plain 𝓛) p _ is₀ $ fjoin ! $ frame ! $

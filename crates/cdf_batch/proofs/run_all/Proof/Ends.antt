@@ -94,7 +94,7 @@ module _ {M : Type 1} {𝓤 : Ura M} (𝓛 : Logic 𝓤) (mem : Memory → SProp
       qed 𝓛 (‵ (flft κ₀ q₀) ∷ ‵ (flft κ₁ q₁) ∷ ‵ (flft κ₂ q₂) ∷ ‵ (Holds κ₀ b o γ zs) ∷ ‵ ListOwn ∷ ‵ TextOwn ∷ []) ∵
       suffices ! _
       (ends_at 𝓛 all.ended stayed (all.clauses 𝓛 mem run) bound (run_val r) r (tt, (zs, (tt, (tt, tt)))) (tt, (e, (tt, (tt, tt))))) $
-      says ! f $ rewrite ! 3 (λ (m : ℕ). ‵ ((MutSlice (named 0) κ₀ u8).own_val (bytes_at b o γ zs) (slice_val (b, o) m ∷ []))) e refl $
+      says ! f $ rewrite ! 3 (λ (m : ℕ). ‵ ((MutSlice (named 0) κ₀ u8).own (bytes_at b o γ zs) (slice_val (b, o) m ∷ []))) e refl $
       nothing ! $ move ! (3 ∷ 0 ∷ []) $ join ! $ move ! (2 ∷ 0 ∷ []) $ join ! $ move ! (1 ∷ 0 ∷ []) $ join ! $ frame ! $
       nothing ! $ move ! (3 ∷ 0 ∷ []) $ fjoin ! $ move ! (2 ∷ 0 ∷ []) $ fjoin ! $ move ! (1 ∷ 0 ∷ []) $ fjoin ! $
       owned ! R.the_row (Is R.the_row) (LL.makes R.the_type R'.the_plain 𝓛) start _ is₀ $ fjoin ! $ frame ! $

@@ -179,7 +179,7 @@ module _ {M : Type 1} {𝓤 : Ura M} (𝓛 : Logic 𝓤) (mem : Memory → SProp
           (and_then ! (load ! (from ! (stop !)) (look ! 23 refl)) (no_more !)))))) (λ u.
           use1 𝓛
           (later (some (λ (r : Ran).
-          ((‵ (flft (ν ∷ []) full_share) ⊛ ‵ (flft κ₂ q₂) ⊛ ‵ ftrue) ⊛ ‵ ((R.the_row).own_val r (u ∷ [])))
+          ((‵ (flft (ν ∷ []) full_share) ⊛ ‵ (flft κ₂ q₂) ⊛ ‵ ftrue) ⊛ ‵ ((R.the_row).own r (u ∷ [])))
           ⊛ raw (ensured 𝓛 one.ended (one.clauses 𝓛 mem run) (ν ∷ [], (κ₂, tt)) (lent-to t δ) tt r))))
           (id⊢ 𝓤 _) $ await ! tt $ pick ! (λ r. split ! $ move ! (1 ∷ []) $
           use1 𝓛
@@ -194,7 +194,7 @@ module _ {M : Type 1} {𝓤 : Ura M} (𝓛 : Logic 𝓤) (mem : Memory → SProp
           -- ν ends, and the buffer comes back
           drop ! $ split ! $ lft_end ! tt $ move ! (0 ∷ 4 ∷ 2 ∷ []) $
           use3 𝓛
-          (later (‵ ((MutSlice (named 0) κ₀ u8).own_val (bytes_at b o γ zs.1.0) (slice_at b o zs.1.0 ∷ [])) ⊛ ‵ (flft κ₀ q₀)))
+          (later (‵ ((MutSlice (named 0) κ₀ u8).own (bytes_at b o γ zs.1.0) (slice_at b o zs.1.0 ∷ [])) ⊛ ‵ (flft κ₀ q₀)))
           (back κ₀ (ν ∷ []) q₀ b o γ 𝓛 t.bytes δ zs.1.0 room len) $ await ! tt $ split ! $
           move ! (2 ∷ []) $ split ! $ move ! (1 ∷ []) $ drop ! $
           rewrite ! 28 (λ (m : ℕ). ‵ (fat full_share out_ty l₂ 0 (slice_val (b, o) m))) (sym len) refl $
