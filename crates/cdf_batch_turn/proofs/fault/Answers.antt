@@ -47,9 +47,6 @@ within c =
     let w = both (leb a.r.begin a.r.end) (leb a.r.end (length a.text.now)) (good c) in
     (leb-true a.r.begin a.r.end w.0, leb-true a.r.end (length a.text.now) w.1)
 
-low : (c : goal.Else-limit-written) → let a = c.args in a.written ≤ (layout_of First).limit
-low c = omega (arith, c.limit.ensures, c.if-limit-written.false)
-
 pub returns-then-limit-written : goal.returns-then-limit-written
 unfolding fault_of
 returns-then-limit-written c =
@@ -58,15 +55,13 @@ returns-then-limit-written c =
     let high : (layout_of First).limit < a.written = omega (arith, c.limit.ensures, c.if-limit-written.true) in
     rw (eq-eqb _ 0 c.if-joined-ne0.false, good past, lt-ltb (layout_of First).limit a.written high)
 
--- What is known past the limit, for the answers below.
-tests : (c : goal.Else-limit-written) → let a = c.args in ltb (layout_of First).limit a.written ≡ false
-tests c = le-ltb (layout_of First).limit _ (low c)
-
 pub returns-then-writing : goal.returns-then-writing
 unfolding fault_of
 returns-then-writing c =
+    let low : (let a = c.args in a.written ≤ (layout_of First).limit) = omega (arith, c.limit.ensures, c.if-limit-written.false) in
+    let tests : (let a = c.args in ltb (layout_of First).limit a.written ≡ false) = le-ltb (layout_of First).limit _ (low) in
     let past = c.before.before.before in
-    rw (eq-eqb _ 0 c.if-joined-ne0.false, good past, tests c.before, c.if-writing.true)
+    rw (eq-eqb _ 0 c.if-joined-ne0.false, good past, tests, c.if-writing.true)
 
 pub slice_bounds-own-count : goal.slice_bounds-own-count
 slice_bounds-own-count c = let w = within c.before.before.before in omega (arith, w.0)
@@ -80,13 +75,15 @@ slice_bounds-own-end c = let w = within c.before.before.before in omega (arith, 
 pub returns-then-number-ne0 : goal.returns-then-number-ne0
 unfolding fault_of
 returns-then-number-ne0 c =
+    let low : (let a = c.args in a.written ≤ (layout_of First).limit) = omega (arith, c.limit.ensures, c.if-limit-written.false) in
+    let tests : (let a = c.args in ltb (layout_of First).limit a.written ≡ false) = le-ltb (layout_of First).limit _ (low) in
     let asked = c.before in
     let writes = asked.before.before in
     let past = writes.before.before.before in
     rw (
       eq-eqb _ 0 c.if-joined-ne0.false,
       good past,
-      tests writes.before,
+      tests,
       c.if-writing.false,
       ← c.own_fault-number.ensures,
       ne_eqb _ 0 c.if-number-ne0.true,
@@ -99,20 +96,23 @@ overflow_add-size c =
 
 pub overflow_add-sum : goal.overflow_add-sum
 overflow_add-sum c =
+    let low : (let a = c.args in a.written ≤ (layout_of First).limit) = omega (arith, c.limit.ensures, c.if-limit-written.false) in
     let writes = c.before.before.before.before in
     let w = within writes.before.before.before in
-    omega (arith, low writes.before, c.prefix.ensures.near, w.0, w.1)
+    omega (arith, low, c.prefix.ensures.near, w.0, w.1)
 
 pub returns : goal.returns
 unfolding fault_of
 returns c =
+    let low : (let a = c.args in a.written ≤ (layout_of First).limit) = omega (arith, c.limit.ensures, c.if-limit-written.false) in
+    let tests : (let a = c.args in ltb (layout_of First).limit a.written ≡ false) = le-ltb (layout_of First).limit _ (low) in
     let asked = c.before.before.before in
     let writes = asked.before.before in
     let past = writes.before.before.before in
     rw (
       eq-eqb _ 0 c.if-joined-ne0.false,
       good past,
-      tests writes.before,
+      tests,
       c.if-writing.false,
       sym c.own_fault-number.ensures ∙ c.if-number-ne0.false,
       ← c.prefix.ensures.is,

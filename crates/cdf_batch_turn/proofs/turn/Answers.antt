@@ -101,23 +101,19 @@ slice_bounds-own-start c = let w = within c.before.before.before in omega (arith
 pub slice_bounds-own-end : goal.slice_bounds-own-end
 slice_bounds-own-end c = let w = within c.before.before.before in omega (arith, w.0, w.1)
 
--- A lent slice has less than 2^63 bytes.
-small : (c : goal.Else-ran-ne0) → length c.args.text.now < 9223372036854775808
-small c = omega arith
-
 pub overflow_add-size : goal.overflow_add-size
 overflow_add-size c =
+    let small : length c.args.text.now < 9223372036854775808 = omega arith in
     let passed = c.before.before.before.before.before in
-    let past = passed.before.before.before.before.before.before.before.before.before.before.before in
     let w = within passed in
-    omega (arith, c.prefix.ensures.near, w.0, w.1, small past)
+    omega (arith, c.prefix.ensures.near, w.0, w.1, small)
 
 pub overflow_add-sum : goal.overflow_add-sum
 overflow_add-sum c =
+    let small : length c.args.text.now < 9223372036854775808 = omega arith in
     let passed = c.before.before.before.before.before.before in
-    let past = passed.before.before.before.before.before.before.before.before.before.before.before in
     let w = within passed in
-    omega (arith, (bounds passed).1, c.prefix.ensures.near, w.0, w.1, small past)
+    omega (arith, (bounds passed).1, c.prefix.ensures.near, w.0, w.1, small)
 
 pub returns : goal.returns
 returns c =

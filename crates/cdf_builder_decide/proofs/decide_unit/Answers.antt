@@ -35,7 +35,7 @@ asked : (c : goal.After-first_state-first) →
     Grows (layout_of a.edition) a.n a.p (unit (record { id = a.id; action = a.action; text = a.«data».now })) left.count left.top
     (c.prefix.result + length a.«data».now) c.first_state-first.result
 asked c =
-    let prefix = c.prefix.ensures in
+    let prefix = (c.prefix.ensures.is, c.prefix.ensures.near) in
     let own = c.before.before.before in
     let told = own.before in
     let joined = told.before.before in

@@ -25,7 +25,7 @@ abbrev numbered : goal.After-slice_known-2-1 → List ℕ
 numbered c =
     let put = c.before.before in
     let s = marked put.before.before in
-    put_mid 2 (length s - 2) s c.put_number.new.1.0
+    put_mid 2 (length s - 2) s c.put_number.new.tail
 
 numbered_long : (c : goal.After-slice_known-2-1) →
     length (numbered c) ≡ length c.args.tail.now
@@ -66,7 +66,7 @@ returns c =
     let a = c.args in
     let k = c.length_bytes-width.result in
     rw (
-      lent 2 k (bytes_of k a.len) (marked mark) c.put_number.new.1.0 c.put_number.ensures,
+      lent 2 k (bytes_of k a.len) (marked mark) c.put_number.new.tail c.put_number.ensures,
       c.length_bytes-width.ensures.is,
       c.second_mark-mark.ensures,
     )

@@ -15,7 +15,7 @@ returns c =
     let l = layout_of a.edition in
     let text = a.«data».now in
     let k = c.prefix-p.result in
-    let s = c.put_prefix.new.1.0 in
+    let s = c.put_prefix.new.tail in
     let is = c.prefix-p.ensures.is in
     let stored = unit-stored l a.id a.action text a.tail.now s (rw is at c.put_prefix.ensures) in
     lent k (length text) text s c.copy.new.tail (c.copy.ensures ∙ onto_some text (take (length s - k) (drop k s)) (search rules)) ∙ rw is stored

@@ -41,7 +41,7 @@ returns-then-has_room c =
     let k = c.length_bytes-width.result in
     rw (← c.length_bytes-width.ensures.is)
     (wrote (a.start + 2) k (bytes_of k a.len) a.buffer.now (length_bytes_lem k a.len) _
-    (rw (behind a.start k) at c.has_room.ensures) c.if-has_room.true c.put_number.new.1.0 c.put_number.ensures)
+    (rw (behind a.start k) at c.has_room.ensures) c.if-has_room.true c.put_number.new.tail c.put_number.ensures)
 
 pub returns-else-has_room : goal.returns-else-has_room
 returns-else-has_room c =

@@ -32,7 +32,7 @@ returns-then-has_room c =
     let l = layout_of a.edition in
     let text = a.«data».now in
     wrote a.at (prefix_of l + length text) (unit_bytes l a.id a.action text []) a.buffer.now (length-alone l a.id a.action text) _
-    (rw c.prefix.ensures.is at c.has_room.ensures) c.if-has_room.true c.put_unit.new.1.0 c.put_unit.ensures
+    (rw c.prefix.ensures.is at c.has_room.ensures) c.if-has_room.true c.put_unit.new.tail c.put_unit.ensures
 
 pub returns-else-has_room : goal.returns-else-has_room
 returns-else-has_room c =

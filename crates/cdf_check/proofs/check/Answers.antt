@@ -3,6 +3,4 @@ use borrow.Author.Rules.{rules}
 use Rattle.cdf_check.proofs.check.Goals as goal
 
 pub returns : goal.returns
-returns c =
-    let all = rw (← c.edition_of-edition.ensures) c.check_as.ensures in
-    record { answer = all.0; is = all.1.0; exact = all.1.1 }
+returns c = rw (← c.edition_of-edition.ensures) (record { answer = c.check_as.ensures.answer; is = c.check_as.ensures.is; exact = c.check_as.ensures.exact })

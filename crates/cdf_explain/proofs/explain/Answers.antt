@@ -17,21 +17,6 @@ use Rattle.cdf_explain.specs.Parts.{told_at}
 use Rattle.cdf_explain.proofs.Explaining.{Told, told-end, closed_few}
 use Rattle.cdf_explain.proofs.explain.Goals as goal
 
--- The bytes, and the layout that they are read in.
-abbrev bytes : goal.At-loop-a → List ℕ
-bytes turn = turn.args.s.now
-
-abbrev l : goal.At-loop-a → Layout
-l turn = layout_of turn.edition_of-edition.result
-
--- What is told where the loop ends.
-end_of : (turn : goal.At-loop-a) → (turn.loop-a.a.number ≡ 0 → ⊥) →
-    Told (l turn) (bytes turn) (outcome_reply turn.loop-a.a)
-end_of turn some =
-    let s = bytes turn in
-    let g = turn.loop-a.invariant.0 in
-    told-end (l turn) s g.0 (outcome_reply turn.loop-a.a) (over (l turn) s g.0 (outcome_reply turn.loop-a.a) g.1 some)
-
 pub loop-a-init : goal.loop-a-init
 unfolding name_row
 loop-a-init c =
@@ -42,12 +27,6 @@ loop-a-init c =
       refl,
     )
 
--- A unit was handed out; so the place fits, and the step by 01's row is NEXT.
-here : (turn : goal.At-loop-a) → turn.loop-a.a.number ≡ 0 →
-    Turn (l turn) (bytes turn) turn.loop-a.invariant.0.0 (outcome_reply turn.loop-a.a)
-here turn z =
-    turned (l turn) (bytes turn) turn.loop-a.invariant.0.0 (outcome_reply turn.loop-a.a) turn.loop-a.invariant.0.1 z
-
 next : (c : goal.After-advance-a) →
     let turn = c.before.before.before.before.before in
     outcome_reply c.advance-a.result ≡ next_of (l turn) (bytes turn) (cursor_place c.loop-a.a.cursor)
@@ -57,46 +36,58 @@ next c =
 
 pub loop-a-smaller : goal.loop-a-smaller
 loop-a-smaller c =
-    let more = c.before.before.before in
-    let turn = more.before.before in
-    let s = bytes turn in
+    let bytes = c.args.s.now in
+    let l = layout_of c.edition_of-edition.result in
+    let s = bytes in
     let p = c.loop-a.a.cursor in
-    less (l turn) s _ _ (outcome_reply c.advance-a.result) c.loop-a-test.true (c.loop-a.invariant.1 c.loop-a-test.true)
-    (rw (← next c) at (next-later (l turn) s (cursor_place p)))
+    less (l) s _ _ (outcome_reply c.advance-a.result) c.loop-a-test.true (c.loop-a.invariant.1 c.loop-a-test.true)
+    (rw (← next c) at (next-later (l) s (cursor_place p)))
 
 pub loop-a-preserved : goal.loop-a-preserved
 loop-a-preserved c =
-    let more = c.before.before.before in
-    let turn = more.before.before in
-    let s = bytes turn in
+    let bytes = c.args.s.now in
+    let l = layout_of c.edition_of-edition.result in
+    let here : c.loop-a.a.number ≡ 0 →
+    Turn (l) (bytes) c.loop-a.invariant.0.0 (outcome_reply c.loop-a.a) = λ z. turned (l) (bytes) c.loop-a.invariant.0.0 (outcome_reply c.loop-a.a) c.loop-a.invariant.0.1 z in
+    let s = bytes in
     let a = c.loop-a.a in
     let before = c.loop-a.invariant.0.0 in (
-      (a.handed.unit ∷ before, rw (next c) (here turn c.loop-a-test.true).next),
-      (λ z. ((rw (← next c) at (next-later (l turn) s (cursor_place a.cursor))) z).1),
+      (a.handed.unit ∷ before, rw (next c) (here c.loop-a-test.true).next),
+      (λ z. ((rw (← next c) at (next-later (l) s (cursor_place a.cursor))) z).1),
       c.loop-a.invariant.2,
     )
 
 pub returns-then-a-eq1 : goal.returns-then-a-eq1
 unfolding explained_by
 returns-then-a-eq1 c =
-    let done = c.before.before in
-    let turn = done.before.before in
-    rw (← c.edition_of-edition.ensures, (end_of turn c.loop-a-test.false).accepted c.if-a-eq1.true)
+    let bytes = c.args.s.now in
+    let l = layout_of c.edition_of-edition.result in
+    let end_of : (c.loop-a.a.number ≡ 0 → ⊥) →
+    Told (l) (bytes) (outcome_reply c.loop-a.a) = λ some. let s = bytes in
+    let g = c.loop-a.invariant.0 in
+    told-end (l) s g.0 (outcome_reply c.loop-a.a) (over (l) s g.0 (outcome_reply c.loop-a.a) g.1 some) in
+    rw (← c.edition_of-edition.ensures, (end_of c.loop-a-test.false).accepted c.if-a-eq1.true)
 
 pub tell-requires : goal.tell-requires
 tell-requires c =
-    let shut = c.before in
-    let done = shut.before.before.before.before.before.before.before.before in
-    let end = end_of done.before.before c.loop-a-test.false in
+    let bytes = c.args.s.now in
+    let l = layout_of c.edition_of-edition.result in
+    let end_of : (c.loop-a.a.number ≡ 0 → ⊥) →
+    Told (l) (bytes) (outcome_reply c.loop-a.a) = λ some. let s = bytes in
+    let g = c.loop-a.invariant.0 in
+    told-end (l) s g.0 (outcome_reply c.loop-a.a) (over (l) s g.0 (outcome_reply c.loop-a.a) g.1 some) in
+    let end = end_of c.loop-a-test.false in
     closed_few _ _ _ _ _ _ c.close-left.ensures end.few
 
 pub returns : goal.returns
 returns c =
-    let shut = c.before.before in
-    let refused = shut.before.before.before.before.before.before in
-    let done = refused.before.before in
-    let turn = done.before.before in
+    let bytes = c.args.s.now in
+    let l = layout_of c.edition_of-edition.result in
+    let end_of : (c.loop-a.a.number ≡ 0 → ⊥) →
+    Told (l) (bytes) (outcome_reply c.loop-a.a) = λ some. let s = bytes in
+    let g = c.loop-a.invariant.0 in
+    told-end (l) s g.0 (outcome_reply c.loop-a.a) (over (l) s g.0 (outcome_reply c.loop-a.a) g.1 some) in
     let a = c.loop-a.a in
-    let end = end_of turn c.loop-a-test.false in
+    let end = end_of c.loop-a-test.false in
     rw (← c.edition_of-edition.ensures)
     (c.tell.ensures ∙ ap (told_at a.number a.offset) c.close-left.ensures ∙ sym (end.told c.if-a-eq1.false))

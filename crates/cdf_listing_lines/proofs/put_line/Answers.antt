@@ -9,23 +9,20 @@ use Rattle.cdf_listing_lines.proofs.Putting.{put_both, room_first, room_then}
 use Rattle.cdf_listing_lines.proofs.Rooms.{line_room}
 use Rattle.cdf_listing_lines.proofs.put_line.Goals as goal
 
-room : (start : goal.Start) →
-    let a = start.args in Room a.at (columns a.depth a.unit ++ decimal a.size ++ 10 ∷ [])
-room start = line_room _ _ _ _ (omega arith) (omega arith) (omega arith) (omega arith, omega arith, omega arith)
-
 pub put_columns-after_columns-requires : goal.put_columns-after_columns-requires
-put_columns-after_columns-requires c = room_first _ (room_first _ (room c.before.before))
+put_columns-after_columns-requires c =
+    let room : (let a = c.args in Room a.at (columns a.depth a.unit ++ decimal a.size ++ 10 ∷ [])) = line_room _ _ _ _ (omega arith) (omega arith) (omega arith) (omega arith, omega arith, omega arith) in
+    room_first _ (room_first _ (room))
 
 pub put_decimal-after_size-requires : goal.put_decimal-after_size-requires
 put_decimal-after_size-requires c =
-    let columns = c.before.before.before in
-    room_then c.put_columns-after_columns.ensures (room_first _ (room columns.before.before.before))
+    let room : (let a = c.args in Room a.at (columns a.depth a.unit ++ decimal a.size ++ 10 ∷ [])) = line_room _ _ _ _ (omega arith) (omega arith) (omega arith) (omega arith, omega arith, omega arith) in
+    room_then c.put_columns-after_columns.ensures (room_first _ (room))
 
 pub put_byte-requires : goal.put_byte-requires
 put_byte-requires c =
-    let size = c.before.before.before in
-    let columns = size.before.before.before.before in
-    room_then (put_both c.put_columns-after_columns.ensures c.put_decimal-after_size.ensures) (room columns.before.before.before)
+    let room : (let a = c.args in Room a.at (columns a.depth a.unit ++ decimal a.size ++ 10 ∷ [])) = line_room _ _ _ _ (omega arith) (omega arith) (omega arith) (omega arith, omega arith, omega arith) in
+    room_then (put_both c.put_columns-after_columns.ensures c.put_decimal-after_size.ensures) (room)
 
 pub returns : goal.returns
 returns c =

@@ -7,9 +7,6 @@ use Rattle.cdf_listing_lines.proofs.Putting.{put_both, room_first, room_then}
 use Rattle.cdf_listing_lines.proofs.Rooms.{ok_room}
 use Rattle.cdf_listing_lines.proofs.put_ok.Goals as goal
 
-room : (start : goal.Start) → Room start.args.at (ok_line start.args.units)
-room start = ok_room _ _ (omega arith) (omega arith)
-
 pub put_decimal-after_units-requires : goal.put_decimal-after_units-requires
 unfolding ok_line
 put_decimal-after_units-requires c = record { held = omega arith }
@@ -17,12 +14,11 @@ put_decimal-after_units-requires c = record { held = omega arith }
 pub put_byte-requires : goal.put_byte-requires
 unfolding ok_line
 put_byte-requires c =
-    let ok = c.before.before.before in
-    room_then c.put_bytes-after_ok.ensures (room_first _ (room ok.before.before.before.before))
+    let room : Room c.args.at (ok_line c.args.units) = ok_room _ _ (omega arith) (omega arith) in
+    room_then c.put_bytes-after_ok.ensures (room_first _ (room))
 
 pub shape_of-out : goal.shape_of-out
 unfolding ok_line
 shape_of-out c =
-    let units = c.before.before.before in
-    let ok = units.before.before.before.before in
-    room_then (put_both c.put_bytes-after_ok.ensures c.put_decimal-after_units.ensures) (room ok.before.before.before.before)
+    let room : Room c.args.at (ok_line c.args.units) = ok_room _ _ (omega arith) (omega arith) in
+    room_then (put_both c.put_bytes-after_ok.ensures c.put_decimal-after_units.ensures) (room)

@@ -7,42 +7,33 @@ use Rattle.cdf_listing_lines.proofs.Putting.{put_both, room_first, room_then}
 use Rattle.cdf_listing_lines.proofs.Rooms.{refused_room}
 use Rattle.cdf_listing_lines.proofs.put_refused.Goals as goal
 
-room : (start : goal.Start) → Room 0 (refused_line start.args.number start.args.offset)
-room start = refused_room _ _ (omega arith) (omega arith)
-
 pub put_bytes-after_at-requires : goal.put_bytes-after_at-requires
 unfolding refused_line
 put_bytes-after_at-requires c =
-    let refused = c.before.before.before in
-    let all = room refused.before.before.before.before in
+    let room : Room 0 (refused_line c.args.number c.args.offset) = refused_room _ _ (omega arith) (omega arith) in
+    let all = room in
     room_then c.put_bytes-after_refused.ensures (room_first _ (room_first _ (room_first _ all)))
 
 pub put_byte-requires : goal.put_byte-requires
 unfolding refused_line
 put_byte-requires c =
-    let number = c.before.before.before.before in
-    let refused = number.before.before.before.before in
-    let all = room refused.before.before.before.before in
+    let room : Room 0 (refused_line c.args.number c.args.offset) = refused_room _ _ (omega arith) (omega arith) in
+    let all = room in
     room_then (put_both c.put_bytes-after_refused.ensures c.put_decimal-after_number.ensures) (room_first _ (room_first _ all))
 
 pub shape_of-out : goal.shape_of-out
 unfolding refused_line
 shape_of-out c =
-    let at = c.before.before.before in
-    let number = at.before.before.before.before.before in
-    let refused = number.before.before.before.before in
-    let all = room refused.before.before.before.before in
+    let room : Room 0 (refused_line c.args.number c.args.offset) = refused_room _ _ (omega arith) (omega arith) in
+    let all = room in
     room_then (put_both (put_both c.put_bytes-after_refused.ensures c.put_decimal-after_number.ensures) c.put_bytes-after_at.ensures)
     (room_first _ all)
 
 pub returns : goal.returns
 unfolding refused_line
 returns c =
-    let offset = c.before.before.before in
-    let at = offset.before.before.before.before in
-    let number = at.before.before.before.before.before in
-    let refused = number.before.before.before.before in
+    let room : Room 0 (refused_line c.args.number c.args.offset) = refused_room _ _ (omega arith) (omega arith) in
     room_then
     (put_both (put_both (put_both c.put_bytes-after_refused.ensures c.put_decimal-after_number.ensures) c.put_bytes-after_at.ensures)
     c.put_decimal-after_offset.ensures)
-    (room refused.before.before.before.before)
+    (room)

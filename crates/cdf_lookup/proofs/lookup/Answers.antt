@@ -8,14 +8,11 @@ use borrow.Author.Tests.{eq-eqb, ne_eqb}
 use Rattle.cdf_lookup.proofs.Parting.{in-second, in-first, in_both}
 use Rattle.cdf_lookup.proofs.lookup.Goals as goal
 
-abbrev entry : goal.After-lookup_place-a → goal.Start
-entry call = call.before.before.before.before.before.before
-
 pub overflow_add-end : goal.overflow_add-end
 overflow_add-end c =
-    let call = c.before in
-    let a = (entry call).args in
-    let long = (entry call).well-formed in
+    let entry = c.before.before.before.before.before.before in
+    let a = (entry).args in
+    let long = (entry).well-formed in
     omega (
       arith,
       in_both c.lookup_place-a.result.which a.first.now a.second.now _ c.lookup_place-a.ensures.within,
@@ -25,8 +22,8 @@ overflow_add-end c =
 
 pub slice_bounds-result-end : goal.slice_bounds-result-end
 slice_bounds-result-end c =
-    let call = c.before.before.before in
-    let a = (entry call).args in
+    let entry = c.before.before.before.before.before.before in
+    let a = (entry).args in
     omega (arith, in-second c.lookup_place-a.result.which a.first.now a.second.now _ c.lookup_place-a.ensures.within c.if-a-eq2.true)
 
 pub returns-then-a-eq2 : goal.returns-then-a-eq2
@@ -38,8 +35,8 @@ returns-then-a-eq2 c =
 
 pub slice_bounds-result-end-2 : goal.slice_bounds-result-end-2
 slice_bounds-result-end-2 c =
-    let call = c.before.before.before in
-    let a = (entry call).args in
+    let entry = c.before.before.before.before.before.before in
+    let a = (entry).args in
     omega (arith, in-first c.lookup_place-a.result.which a.first.now a.second.now _ c.lookup_place-a.ensures.within c.if-a-eq2.false)
 
 pub returns : goal.returns

@@ -22,28 +22,6 @@ use Rattle.cdf_lookup_search.proofs.Rooted.{group_is}
 use Rattle.cdf_lookup_search.proofs.Searched.{nowhere, seek, lies_in, stays, goes_on, keeps-place, accepted, refused}
 use Rattle.cdf_lookup_search.proofs.walk.Goals as goal
 
--- Where the start has been made, the bytes and what is asked for, at the head of the loop.
-abbrev begin : goal.At-loop-a → goal.After-first_as-a
-begin turn = turn.before.before.before
-
--- The layout that the bytes are read in.
-abbrev l : goal.At-loop-a → Layout
-l turn = layout_of (begin turn).before.edition-of.result
-
-abbrev bytes : goal.At-loop-a → List ℕ
-bytes turn = (begin turn).before.before.before.before.before.before.args.s.now
-
-abbrev asked : goal.At-loop-a → Query
-asked turn =
-    let a = (begin turn).before.before.before.before.before.before.args in
-    query a.template.now a.kind a.key.now a.field.now
-
--- The unit in hand lies in the bytes, and the loop goes on from it.
-in_hand : (turn : goal.At-loop-a) → turn.loop-a.a.number ≡ 0 →
-    Turn (seek (l turn) (bytes turn) (asked turn)) (l turn) (bytes turn) Seeking (reply_of turn.loop-a.a) turn.loop-a.state
-in_hand turn z =
-    turned (seek (l turn) (bytes turn) (asked turn)) (l turn) (bytes turn) Seeking (reply_of turn.loop-a.a) turn.loop-a.state turn.loop-a.invariant.0 z
-
 -- Where it was folded in, or the search is over.
 module _ (step : goal.Joined-not-is_over) where
   abbrev head : goal.At-loop-a
@@ -81,9 +59,14 @@ loop-a-init c =
 
 pub advance-state-requires : goal.advance-state-requires
 advance-state-requires c =
-    let hand = c.before.before.before in
-    let turn = hand.before.before in
-    lies_in (l turn) (bytes turn) (asked turn) (reply_of c.loop-a.a) c.loop-a.state (in_hand turn c.loop-a-test.true)
+    let begin = c.before.before.before in
+    let l = layout_of (begin).before.edition-of.result in
+    let bytes = (begin).before.before.before.before.before.before.args.s.now in
+    let asked = let a = (begin).before.before.before.before.before.before.args in
+    query a.template.now a.kind a.key.now a.field.now in
+    let in_hand : c.loop-a.a.number ≡ 0 →
+    Turn (seek (l) (bytes) (asked)) (l) (bytes) Seeking (reply_of c.loop-a.a) c.loop-a.state = λ z. turned (seek (l) (bytes) (asked)) (l) (bytes) Seeking (reply_of c.loop-a.a) c.loop-a.state c.loop-a.invariant.0 z in
+    lies_in (l) (bytes) (asked) (reply_of c.loop-a.a) c.loop-a.state (in_hand c.loop-a-test.true)
 
 -- The place fits, so a step from it by 01's row is NEXT.
 next : (c : goal.After-advance-a) →
@@ -95,6 +78,9 @@ next c =
 
 pub loop-a-smaller : goal.loop-a-smaller
 loop-a-smaller c =
+    let begin = c.before.before.before in
+    let l = layout_of (begin).before.edition-of.result in
+    let bytes = (begin).before.before.before.before.before.before.args.s.now in
     let step = c.before.before.before in
     let turn = head step in
     less (l turn) (bytes turn) _ _ (reply_of c.advance-a.result) (taken step) (turn.loop.inv.1 (taken step))
@@ -102,6 +88,9 @@ loop-a-smaller c =
 
 pub loop-a-preserved : goal.loop-a-preserved
 loop-a-preserved c =
+    let begin = c.before.before.before in
+    let l = layout_of (begin).before.edition-of.result in
+    let bytes = (begin).before.before.before.before.before.before.args.s.now in
     let step = c.before.before.before in
     let turn = head step in (
       rw (next c) (on step),
@@ -112,26 +101,27 @@ loop-a-preserved c =
 
 pub returns-then-a-eq1 : goal.returns-then-a-eq1
 returns-then-a-eq1 c =
-    let end = c.before.before in
-    let turn = end.before.before.before in
+    let begin = c.before.before.before in
+    let l = layout_of (begin).before.edition-of.result in
+    let bytes = (begin).before.before.before.before.before.before.args.s.now in
+    let asked = let a = (begin).before.before.before.before.before.before.args in
+    query a.template.now a.kind a.key.now a.field.now in
     let is = c.outcome-value.ensures in
-    let group = group_is (l turn) (bytes turn) (reply_of (begin turn).first-as.result) (begin turn).first-as.ensures.0 in
-    let all = rw (← (begin turn).before.edition-of.ensures) (
-      rw is (accepted (l turn) (bytes turn) (asked turn) (reply_of c.loop-a.a) c.loop-a.state c.loop-a.invariant.0 _ group c.if-a-eq1.true),
-      rw is c.loop-a.invariant.2,
-    ) in
-    record { is = all.0; placed = all.1 }
+    let group = group_is (l) (bytes) (reply_of (begin).first-as.result) (begin).first-as.ensures.0 in
+    rw (← (begin).before.edition-of.ensures) (record { is = rw is (accepted (l) (bytes) (asked) (reply_of c.loop-a.a) c.loop-a.state c.loop-a.invariant.0 _ group c.if-a-eq1.true); placed = rw is c.loop-a.invariant.2 })
 
 pub returns : goal.returns
 returns c =
-    let end = c.before.before in
-    let turn = end.before.before.before in
+    let begin = c.before.before.before in
+    let l = layout_of (begin).before.edition-of.result in
+    let bytes = (begin).before.before.before.before.before.before.args.s.now in
+    let asked = let a = (begin).before.before.before.before.before.before.args in
+    query a.template.now a.kind a.key.now a.field.now in
     let is = c.outcome-value.ensures in
-    let group = group_is (l turn) (bytes turn) (reply_of (begin turn).first-as.result) (begin turn).first-as.ensures.0 in
-    let all = rw (← (begin turn).before.edition-of.ensures) (
-      rw is
-          (refused (l turn) (bytes turn) (asked turn) (reply_of c.loop-a.a) c.loop-a.state c.loop-a.invariant.0 _ group c.loop-a-test.false
-          c.if-a-eq1.false),
-      rw is c.loop-a.invariant.2,
-    ) in
-    record { is = all.0; placed = all.1 }
+    let group = group_is (l) (bytes) (reply_of (begin).first-as.result) (begin).first-as.ensures.0 in
+    rw (← (begin).before.edition-of.ensures) (record {
+      is = rw is
+          (refused (l) (bytes) (asked) (reply_of c.loop-a.a) c.loop-a.state c.loop-a.invariant.0 _ group c.loop-a-test.false
+          c.if-a-eq1.false);
+      placed = rw is c.loop-a.invariant.2;
+    })

@@ -3,6 +3,4 @@ use borrow.Author.Rules.{rules}
 use Rattle.cdf_reader.proofs.first.Goals as goal
 
 pub returns : goal.returns
-returns c =
-    let all = rw (← c.edition_of-edition.ensures) c.first_as.ensures in
-    record { is = all.0; kept = all.1 }
+returns c = rw (← c.edition_of-edition.ensures) (record { is = c.first_as.ensures.is; kept = c.first_as.ensures.kept })

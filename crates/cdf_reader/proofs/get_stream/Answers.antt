@@ -10,12 +10,6 @@ use Rattle.cdf_reader.specs.View.{view}
 use Rattle.cdf_reader.proofs.Passing.{part_none, part-some, part-within}
 use Rattle.cdf_reader.proofs.get_stream.Goals as goal
 
--- The number is that of the call.
-number : (c : goal.After-get_stream_place-a) →
-    let a = c.args in
-    c.get_stream_place-a.result.number ≡ (take_of (layout_for a.s.now) a.s.now (view a.p)).number
-number c = ap (λ (r : Reply). r.number) c.get_stream_place-a.ensures.is
-
 -- Where it is 0, the last unit lies in the bytes.
 lies : (c : goal.Else-a-ne0) →
     let a = c.args in
@@ -24,8 +18,9 @@ lies c = part-within _ _ _ (sym (number c.before.before) ∙ c.if-a-ne0.false)
 
 pub returns-then-a-ne0 : goal.returns-then-a-ne0
 returns-then-a-ne0 c =
-    let all = rw (part_none _ _ _ (λ z. c.if-a-ne0.true (number c.before.before.before ∙ z))) (refl, (refl, search rules)) in
-    record { bytes = all.0; stands = all.1 }
+    let number : (let a = c.args in
+    c.get_stream_place-a.result.number ≡ (take_of (layout_for a.s.now) a.s.now (view a.p)).number) = ap (λ (r : Reply). r.number) c.get_stream_place-a.ensures.is in
+    rw (part_none _ _ _ (λ z. c.if-a-ne0.true (number ∙ z))) (record { bytes = refl; stands = (refl, search rules) })
 
 pub slice_bounds-result-count-2 : goal.slice_bounds-result-count-2
 slice_bounds-result-count-2 c = omega (arith, lies c)
@@ -38,5 +33,6 @@ slice_bounds-result-end-2 c = omega (arith, lies c)
 
 pub returns : goal.returns
 returns c =
-    let all = rw (part-some _ _ _ (sym (number c.before.before.before) ∙ c.if-a-ne0.false)) (refl, (refl, search rules)) in
-    record { bytes = all.0; stands = all.1 }
+    let number : (let a = c.args in
+    c.get_stream_place-a.result.number ≡ (take_of (layout_for a.s.now) a.s.now (view a.p)).number) = ap (λ (r : Reply). r.number) c.get_stream_place-a.ensures.is in
+    rw (part-some _ _ _ (sym (number) ∙ c.if-a-ne0.false)) (record { bytes = refl; stands = (refl, search rules) })

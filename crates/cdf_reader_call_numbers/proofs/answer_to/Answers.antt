@@ -9,13 +9,11 @@ pub part_by-part-requires : goal.part_by-part-requires
 part_by-part-requires c =
     λ take zero. take_within _ _ _ take (sym (ap (λ (r : Reply). r.number) c.call-a.ensures.is) ∙ zero)
 
--- What is known once the call is made and its answer is written, whichever way the place goes.
-answered : (c : goal.After-is_kept) →
-    let call = c.before.before.before.before in
+pub returns-then-is_kept : goal.returns-then-is_kept
+returns-then-is_kept c =
+    let answered : (let call = c.before.before.before.before in
     let a = c.args in
-    Answered a.call a.s.now a.place.now c.call-a.result c.write_answer.new.1.1.0
-answered c =
-    let wrote = c.before in
+    Answered a.call a.s.now a.place.now c.call-a.result c.write_answer.new.a) = let wrote = c.before in
     let part = wrote.before.before in
     let call = part.before in
     let read = call.before in
@@ -28,12 +26,25 @@ answered c =
       part = record { start = c.part_by-part.result.start; size = c.part_by-part.result.size };
       by = c.part_by-part.ensures;
       written = c.write_answer.ensures;
-    }
-
-pub returns-then-is_kept : goal.returns-then-is_kept
-returns-then-is_kept c = leaves-old (answered c.before) (sym c.is_kept.ensures ∙ c.if-is_kept.true)
+    } in
+    leaves-old (answered) (sym c.is_kept.ensures ∙ c.if-is_kept.true)
 
 pub returns : goal.returns
 returns c =
-    let new = c.before.before.before in
-    leaves-new (answered new.before) (sym c.is_kept.ensures ∙ c.if-is_kept.false) _ c.write_place.ensures
+    let answered : (let call = c.before.before.before.before in
+    let a = c.args in
+    Answered a.call a.s.now a.place.now c.call-a.result c.write_answer.new.a) = let wrote = c.before in
+    let part = wrote.before.before in
+    let call = part.before in
+    let read = call.before in
+    record {
+      place = c.place_from-p.result;
+      read = c.place_from-p.ensures;
+      due = c.call-a.ensures.is;
+      kept = c.call-a.ensures.kept;
+      again = c.call-a.ensures.again;
+      part = record { start = c.part_by-part.result.start; size = c.part_by-part.result.size };
+      by = c.part_by-part.ensures;
+      written = c.write_answer.ensures;
+    } in
+    leaves-new (answered) (sym c.is_kept.ensures ∙ c.if-is_kept.false) _ c.write_place.ensures

@@ -11,18 +11,6 @@ use Rattle.cdf_unit_data.specs.Standing.{name_row}
 use Rattle.cdf_reader_replay_spec.proofs.Replaying.{Running, long, fits_more, begun, on, finished, ended-unknown, ended-all}
 use Rattle.cdf_reader_replay.proofs.run.Goals as goal
 
--- The log is as long as it was,
-kept : (turn : goal.At-loop-k) → length turn.loop-k.log ≡ length turn.args.log.now
-kept turn =
-    let a = turn.args in
-    long a.s.now a.calls.now a.log.now turn.requires turn.loop-k.invariant.0
-
--- and has room for one more entry.
-room : (going : goal.In-loop-k) → going.loop-k.at + 11 ≤ length going.loop-k.log
-room going =
-    let a = going.args in
-    fits_more a.s.now a.calls.now a.log.now going.requires going.loop-k.invariant.0 going.loop-k-test.true
-
 pub loop-k-init : goal.loop-k-init
 unfolding name_row
 loop-k-init c =
@@ -33,7 +21,10 @@ pub bounds-calls-k : goal.bounds-calls-k
 bounds-calls-k c = c.loop-k-test.true
 
 pub shape_of-log-then-not-is_known : goal.shape_of-log-then-not-is_known
-shape_of-log-then-not-is_known c = kept c.before.before.before.before
+shape_of-log-then-not-is_known c =
+    let kept : length c.loop-k.log ≡ length c.args.log.now = let a = c.args in
+    long a.s.now a.calls.now a.log.now c.requires c.loop-k.invariant.0 in
+    kept
 
 pub returns-then-not-is_known : goal.returns-then-not-is_known
 returns-then-not-is_known c =
@@ -51,23 +42,34 @@ turn-o-requires c =
 
 pub offset_bounds-log-at : goal.offset_bounds-log-at
 offset_bounds-log-at c =
+    let kept : length c.loop-k.log ≡ length c.args.log.now = let a = c.args in
+    long a.s.now a.calls.now a.log.now c.requires c.loop-k.invariant.0 in
+    let room : c.loop-k.at + 11 ≤ length c.loop-k.log = let a = c.args in
+    fits_more a.s.now a.calls.now a.log.now c.requires c.loop-k.invariant.0 c.loop-k-test.true in
     let going = c.before.before.before.before.before.before.before in
     let start = going.before.before.before.before.before.before.before in
-    omega (arith, kept going.before, room going, start.well-formed.1.1.0.1)
+    omega (arith, kept, room, start.well-formed.1.1.0.1)
 
 pub slice_bounds-write_entry-count : goal.slice_bounds-write_entry-count
-slice_bounds-write_entry-count c = let going = c.before.before.before.before.before.before.before in omega (arith, room going)
+slice_bounds-write_entry-count c =
+    let room : c.loop-k.at + 11 ≤ length c.loop-k.log = let a = c.args in
+    fits_more a.s.now a.calls.now a.log.now c.requires c.loop-k.invariant.0 c.loop-k-test.true in
+    omega (arith, room)
 
 pub slice_bounds-write_entry-start : goal.slice_bounds-write_entry-start
-slice_bounds-write_entry-start c = let going = c.before.before.before.before.before.before.before in omega (arith, room going)
+slice_bounds-write_entry-start c =
+    let room : c.loop-k.at + 11 ≤ length c.loop-k.log = let a = c.args in
+    fits_more a.s.now a.calls.now a.log.now c.requires c.loop-k.invariant.0 c.loop-k-test.true in
+    omega (arith, room)
 
 pub slice_bounds-write_entry-end : goal.slice_bounds-write_entry-end
 slice_bounds-write_entry-end c = omega arith
 
 pub write_entry-requires : goal.write_entry-requires
 write_entry-requires c =
-    let going = c.before.before.before.before.before.before.before.before in
-    rw (rest c.loop-k.at c.loop-k.log, length-drop) (omega (arith, room going))
+    let room : c.loop-k.at + 11 ≤ length c.loop-k.log = let a = c.args in
+    fits_more a.s.now a.calls.now a.log.now c.requires c.loop-k.invariant.0 c.loop-k-test.true in
+    rw (rest c.loop-k.at c.loop-k.log, length-drop) (omega (arith, room))
 
 pub overflow_add-k : goal.overflow_add-k
 overflow_add-k c =
@@ -75,9 +77,13 @@ overflow_add-k c =
 
 pub overflow_add-at : goal.overflow_add-at
 overflow_add-at c =
+    let kept : length c.loop-k.log ≡ length c.args.log.now = let a = c.args in
+    long a.s.now a.calls.now a.log.now c.requires c.loop-k.invariant.0 in
+    let room : c.loop-k.at + 11 ≤ length c.loop-k.log = let a = c.args in
+    fits_more a.s.now a.calls.now a.log.now c.requires c.loop-k.invariant.0 c.loop-k-test.true in
     let going = c.before.before.before.before.before.before.before.before.before.before.before.before in
     let start = going.before.before.before.before.before.before.before in
-    omega (arith, kept going.before, room going, start.well-formed.1.1.0.1)
+    omega (arith, kept, room, start.well-formed.1.1.0.1)
 
 pub loop-k-smaller : goal.loop-k-smaller
 loop-k-smaller c =
@@ -95,7 +101,10 @@ loop-k-preserved c =
     )
 
 pub shape_of-log : goal.shape_of-log
-shape_of-log c = kept c.before
+shape_of-log c =
+    let kept : length c.loop-k.log ≡ length c.args.log.now = let a = c.args in
+    long a.s.now a.calls.now a.log.now c.requires c.loop-k.invariant.0 in
+    kept
 
 pub returns : goal.returns
 returns c =

@@ -11,16 +11,6 @@ use Rattle.cdf_reader_step.proofs.Asking.{Use, ready, useless, fit-needed, count
 use Rattle.cdf_reader_replay_spec.proofs.Holding.{may-go, goes_on}
 use Rattle.cdf_reader_replay.proofs.turn.Goals as goal
 
--- The call has a use,
-may : (c : goal.Else-not-has_use) → let a = c.args in Use a.c a.call ≡ true
-may c = sym c.has_use.ensures ∙ not-false c.has_use.result c.if-not-has_use.false-raw
-
--- and may go on with the place.
-fit : (c : goal.Else-not-has_use) → let a = c.args in ready a.c (layout_for a.s.now) a.s.now a.call ≡ true
-fit c =
-    let a = c.args in
-    may-go a.s.now a.c c.requires.0 a.call (may c)
-
 pub returns-then-not-has_use : goal.returns-then-not-has_use
 returns-then-not-has_use c =
     let a = c.args in
@@ -31,49 +21,61 @@ returns-then-not-has_use c =
 
 pub last_depth-depth-requires : goal.last_depth-depth-requires
 last_depth-depth-requires c =
-    let go = c.before.before.before in
+    let may : (let a = c.args in Use a.c a.call ≡ true) = sym c.has_use.ensures ∙ not-false c.has_use.result c.if-not-has_use.false-raw in
+    let fit : (let a = c.args in ready a.c (layout_for a.s.now) a.s.now a.call ≡ true) = let a = c.args in
+    may-go a.s.now a.c c.requires.0 a.call (may) in
     let a = c.args in
     counts a.c (layout_for a.s.now) (length a.s.now)
-    (fit-needed a.c (layout_for a.s.now) a.s.now a.call (fit go) (ap is_start c.in-Previous.is))
+    (fit-needed a.c (layout_for a.s.now) a.s.now a.call (fit) (ap is_start c.in-Previous.is))
 
 pub returns-in-Start : goal.returns-in-Start
 returns-in-Start c =
-    let go = c.before.before.before in
+    let may : (let a = c.args in Use a.c a.call ≡ true) = sym c.has_use.ensures ∙ not-false c.has_use.result c.if-not-has_use.false-raw in
+    let fit : (let a = c.args in ready a.c (layout_for a.s.now) a.s.now a.call ≡ true) = let a = c.args in
+    may-go a.s.now a.c c.requires.0 a.call (may) in
     let a = c.args in
     let all = goes_on a.s.now a.c c.requires.0 a.call _
-    (starts a.c (layout_for a.s.now) a.s.now a.call (may go) (fit go) c.in-Start.is c.first_as.result
+    (starts a.c (layout_for a.s.now) a.s.now a.call (may) (fit) c.in-Start.is c.first_as.result
     (rw c.requires.2 at c.first_as.ensures.is) c.first_as.ensures.kept) in
     record { is = all.0; held = all.1 }
 
 pub returns-in-Next : goal.returns-in-Next
 returns-in-Next c =
-    let go = c.before.before.before in
+    let may : (let a = c.args in Use a.c a.call ≡ true) = sym c.has_use.ensures ∙ not-false c.has_use.result c.if-not-has_use.false-raw in
+    let fit : (let a = c.args in ready a.c (layout_for a.s.now) a.s.now a.call ≡ true) = let a = c.args in
+    may-go a.s.now a.c c.requires.0 a.call (may) in
     let a = c.args in
     let all = goes_on a.s.now a.c c.requires.0 a.call _
-    (steps a.c (layout_for a.s.now) a.s.now a.call (may go) (fit go) c.in-Next.is c.advance.result
+    (steps a.c (layout_for a.s.now) a.s.now a.call (may) (fit) c.in-Next.is c.advance.result
     (rw (c.requires.1, c.requires.2) at c.advance.ensures.is) c.advance.ensures.kept) in
     record { is = all.0; held = all.1 }
 
 pub returns-in-Skip : goal.returns-in-Skip
 returns-in-Skip c =
-    let go = c.before.before.before in
+    let may : (let a = c.args in Use a.c a.call ≡ true) = sym c.has_use.ensures ∙ not-false c.has_use.result c.if-not-has_use.false-raw in
+    let fit : (let a = c.args in ready a.c (layout_for a.s.now) a.s.now a.call ≡ true) = let a = c.args in
+    may-go a.s.now a.c c.requires.0 a.call (may) in
     let a = c.args in
     let all = goes_on a.s.now a.c c.requires.0 a.call _
-    (skips a.c (layout_for a.s.now) a.s.now a.call (may go) (fit go) c.in-Skip.is c.pass.result c.pass.ensures) in
+    (skips a.c (layout_for a.s.now) a.s.now a.call (may) (fit) c.in-Skip.is c.pass.result c.pass.ensures) in
     record { is = all.0; held = all.1 }
 
 pub returns-in-GetStream : goal.returns-in-GetStream
 returns-in-GetStream c =
-    let go = c.before.before.before in
+    let may : (let a = c.args in Use a.c a.call ≡ true) = sym c.has_use.ensures ∙ not-false c.has_use.result c.if-not-has_use.false-raw in
+    let fit : (let a = c.args in ready a.c (layout_for a.s.now) a.s.now a.call ≡ true) = let a = c.args in
+    may-go a.s.now a.c c.requires.0 a.call (may) in
     let a = c.args in
     let all = goes_on a.s.now a.c c.requires.0 a.call _
-    (takes a.c (layout_for a.s.now) a.s.now a.call (may go) (fit go) c.in-GetStream.is c.pass-in-GetStream.result c.pass-in-GetStream.ensures) in
+    (takes a.c (layout_for a.s.now) a.s.now a.call (may) (fit) c.in-GetStream.is c.pass-in-GetStream.result c.pass-in-GetStream.ensures) in
     record { is = all.0; held = all.1 }
 
 pub returns-in-Previous : goal.returns-in-Previous
 returns-in-Previous c =
-    let go = c.before.before.before.before in
+    let may : (let a = c.args in Use a.c a.call ≡ true) = sym c.has_use.ensures ∙ not-false c.has_use.result c.if-not-has_use.false-raw in
+    let fit : (let a = c.args in ready a.c (layout_for a.s.now) a.s.now a.call ≡ true) = let a = c.args in
+    may-go a.s.now a.c c.requires.0 a.call (may) in
     let a = c.args in
     let all = goes_on a.s.now a.c c.requires.0 a.call _
-    (again a.c (layout_for a.s.now) a.s.now a.call (may go) (fit go) c.in-Previous.is _ c.last_depth-depth.ensures) in
+    (again a.c (layout_for a.s.now) a.s.now a.call (may) (fit) c.in-Previous.is _ c.last_depth-depth.ensures) in
     record { is = all.0; held = all.1 }

@@ -14,12 +14,6 @@ use Rattle.cdf_reader_step.proofs.call_at.Goals as goal
 may : (c : goal.Else-not-has_use) → let a = c.args in Use a.c a.call ≡ true
 may c = sym c.has_use.ensures ∙ not-false c.has_use.result c.if-not-has_use.false-raw
 
--- and may go on with the place.
-fit : (c : goal.Else-not-is_ready) →
-    let a = c.args in
-    ready a.c (layout_of a.edition) a.s.now a.call ≡ true
-fit c = sym c.is_ready.ensures ∙ not-false c.is_ready.result c.if-not-is_ready.false-raw
-
 pub returns-then-not-has_use : goal.returns-then-not-has_use
 returns-then-not-has_use c =
     let all = useless _ _ _ _ (sym c.has_use.ensures ∙ not-true c.has_use.result c.if-not-has_use.true-raw) c.refused.result
@@ -35,40 +29,51 @@ returns-then-not-is_ready c =
 
 pub last_depth-depth-requires : goal.last_depth-depth-requires
 last_depth-depth-requires c =
-    let go = c.before.before.before in
+    let fit : (let a = c.args in
+    ready a.c (layout_of a.edition) a.s.now a.call ≡ true) = sym c.is_ready.ensures ∙ not-false c.is_ready.result c.if-not-is_ready.false-raw in
     let a = c.args in
     counts a.c (layout_of a.edition) (length a.s.now)
-    (fit-needed a.c (layout_of a.edition) a.s.now a.call (fit go) (ap is_start c.in-Previous.is))
+    (fit-needed a.c (layout_of a.edition) a.s.now a.call (fit) (ap is_start c.in-Previous.is))
 
 pub returns-in-Start : goal.returns-in-Start
 returns-in-Start c =
+    let fit : (let a = c.args in
+    ready a.c (layout_of a.edition) a.s.now a.call ≡ true) = sym c.is_ready.ensures ∙ not-false c.is_ready.result c.if-not-is_ready.false-raw in
     let go = c.before.before.before in
-    let all = starts _ _ _ _ (may go.before.before) (fit go) c.in-Start.is c.first_as.result c.first_as.ensures.is
+    let all = starts _ _ _ _ (may go.before.before) (fit) c.in-Start.is c.first_as.result c.first_as.ensures.is
     c.first_as.ensures.kept in
     record { is = all.0; kept = all.1.0; again = all.1.1 }
 
 pub returns-in-Next : goal.returns-in-Next
 unfolding name_row
 returns-in-Next c =
+    let fit : (let a = c.args in
+    ready a.c (layout_of a.edition) a.s.now a.call ≡ true) = sym c.is_ready.ensures ∙ not-false c.is_ready.result c.if-not-is_ready.false-raw in
     let go = c.before.before.before.before in
-    let all = steps _ _ _ _ (may go.before.before) (fit go) c.in-Next.is c.advance.result c.advance.ensures.is
+    let all = steps _ _ _ _ (may go.before.before) (fit) c.in-Next.is c.advance.result c.advance.ensures.is
     c.advance.ensures.kept in
     record { is = all.0; kept = all.1.0; again = all.1.1 }
 
 pub returns-in-Skip : goal.returns-in-Skip
 returns-in-Skip c =
+    let fit : (let a = c.args in
+    ready a.c (layout_of a.edition) a.s.now a.call ≡ true) = sym c.is_ready.ensures ∙ not-false c.is_ready.result c.if-not-is_ready.false-raw in
     let go = c.before.before.before in
-    let all = skips _ _ _ _ (may go.before.before) (fit go) c.in-Skip.is c.pass.result c.pass.ensures in
+    let all = skips _ _ _ _ (may go.before.before) (fit) c.in-Skip.is c.pass.result c.pass.ensures in
     record { is = all.0; kept = all.1.0; again = all.1.1 }
 
 pub returns-in-GetStream : goal.returns-in-GetStream
 returns-in-GetStream c =
+    let fit : (let a = c.args in
+    ready a.c (layout_of a.edition) a.s.now a.call ≡ true) = sym c.is_ready.ensures ∙ not-false c.is_ready.result c.if-not-is_ready.false-raw in
     let go = c.before.before.before in
-    let all = takes _ _ _ _ (may go.before.before) (fit go) c.in-GetStream.is c.pass-in-GetStream.result c.pass-in-GetStream.ensures in
+    let all = takes _ _ _ _ (may go.before.before) (fit) c.in-GetStream.is c.pass-in-GetStream.result c.pass-in-GetStream.ensures in
     record { is = all.0; kept = all.1.0; again = all.1.1 }
 
 pub returns-in-Previous : goal.returns-in-Previous
 returns-in-Previous c =
+    let fit : (let a = c.args in
+    ready a.c (layout_of a.edition) a.s.now a.call ≡ true) = sym c.is_ready.ensures ∙ not-false c.is_ready.result c.if-not-is_ready.false-raw in
     let go = c.before.before.before.before in
-    let all = again _ _ _ _ (may go.before.before) (fit go) c.in-Previous.is _ c.last_depth-depth.ensures in
+    let all = again _ _ _ _ (may go.before.before) (fit) c.in-Previous.is _ c.last_depth-depth.ensures in
     record { is = all.0; kept = all.1.0; again = all.1.1 }

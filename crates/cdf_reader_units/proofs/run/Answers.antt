@@ -13,24 +13,17 @@ pub loop-count-init : goal.loop-count-init
 unfolding name_row
 loop-count-init c = (begun c.args.s.now c.args.p c.args.list.now c.requires.1, refl)
 
--- The edition is that of the bytes.
-edition : (turn : goal.At-loop-count) → let a = turn.args in a.edition ≡ edition_of a.s.now
-edition turn = turn.requires.0
-
--- The list keeps its length.
-kept : (turn : goal.At-loop-count) → length turn.loop-count.list ≡ length turn.args.list.now
-kept turn = long _ _ _ turn.loop-count.invariant.0
-
 pub shape_of-list-then-a-ne0 : goal.shape_of-list-then-a-ne0
-shape_of-list-then-a-ne0 c = kept c.before.before.before.before.before.before
+shape_of-list-then-a-ne0 c =
+    let kept : length c.loop-count.list ≡ length c.args.list.now = long _ _ _ c.loop-count.invariant.0 in
+    kept
 
 pub returns-then-a-ne0 : goal.returns-then-a-ne0
 returns-then-a-ne0 c =
-    let told = c.before.before.before in
-    let more = told.before.before in
+    let edition : (let a = c.args in a.edition ≡ edition_of a.s.now) = c.requires.0 in
     let inv = c.loop-count.invariant in
     rw c.stopped.ensures
-    (stops _ _ _ inv.0 c.loop-count-test.true _ inv.1 c.advance-a.result (rw (edition more.before) at c.advance-a.ensures.is)
+    (stops _ _ _ inv.0 c.loop-count-test.true _ inv.1 c.advance-a.result (rw (edition) at c.advance-a.ensures.is)
     c.if-a-ne0.true)
 
 pub write_unit-requires : goal.write_unit-requires
@@ -43,9 +36,8 @@ overflow_add-count c =
 
 pub overflow_add-at : goal.overflow_add-at
 overflow_add-at c =
-    let more = c.before.before.before.before.before.before.before.before.before.before in
-    let turn = more.before in
-    omega (arith, fits_more _ _ _ c.loop-count.invariant.0 c.loop-count-test.true, kept turn)
+    let kept : length c.loop-count.list ≡ length c.args.list.now = long _ _ _ c.loop-count.invariant.0 in
+    omega (arith, fits_more _ _ _ c.loop-count.invariant.0 c.loop-count-test.true, kept)
 
 pub loop-count-smaller : goal.loop-count-smaller
 loop-count-smaller c =
@@ -53,18 +45,17 @@ loop-count-smaller c =
 
 pub loop-count-preserved : goal.loop-count-preserved
 loop-count-preserved c =
-    let wrote = c.before.before.before in
-    let handing = wrote.before.before.before in
-    let told = handing.before.before in
-    let more = told.before.before in
+    let edition : (let a = c.args in a.edition ≡ edition_of a.s.now) = c.requires.0 in
     let inv = c.loop-count.invariant in (
-      on _ _ _ inv.0 c.loop-count-test.true _ inv.1 c.advance-a.result (rw (edition more.before) at c.advance-a.ensures.is)
+      on _ _ _ inv.0 c.loop-count-test.true _ inv.1 c.advance-a.result (rw (edition) at c.advance-a.ensures.is)
           c.if-a-ne0.false _ c.write_unit.ensures,
       inv.1,
     )
 
 pub shape_of-list : goal.shape_of-list
-shape_of-list c = kept c.before.before
+shape_of-list c =
+    let kept : length c.loop-count.list ≡ length c.args.list.now = long _ _ _ c.loop-count.invariant.0 in
+    kept
 
 pub returns : goal.returns
 returns c = rw c.stopped-2.ensures (full _ _ _ c.loop-count.invariant.0 c.loop-count-test.false)

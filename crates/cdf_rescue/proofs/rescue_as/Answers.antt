@@ -55,10 +55,6 @@ returns-then-found-eq0 c =
     let all = refuses _ _ _ 16 _ (nothing-kept _ _ _ (enough found.before.before) (sym (kept-is found) ∙ c.if-found-eq0.true)) c.refused-then-found-eq0.ensures in
     record { is = all.0; bytes = all.1 }
 
--- Something is kept.
-some : (c : goal.Else-found-eq0) → length (kept_of (l c.before.before) (s c.before.before)) ≡ 0 → ⊥
-some c z = c.if-found-eq0.false (kept-is c.before.before ∙ z)
-
 pub overflow_add-size : goal.overflow_add-size
 overflow_add-size c =
     let w = c.scan-found.ensures.all c.if-found.false in
@@ -66,24 +62,22 @@ overflow_add-size c =
 
 pub returns-then-limit-size : goal.returns-then-limit-size
 returns-then-limit-size c =
+    let some : length (kept_of (l c.before.before) (s c.before.before)) ≡ 0 → ⊥ = λ z. c.if-found-eq0.false (kept-is c.before.before ∙ z) in
     let kept = c.before.before.before.before in
     let found = kept.before.before in
-    let all = refuses _ _ _ 13 _ (long-group _ _ _ (enough found.before.before) (some kept) (few-runs found)
+    let all = refuses _ _ _ 13 _ (long-group _ _ _ (enough found.before.before) (some) (few-runs found)
     (omega (arith, c.if-limit-size.true, c.limit.ensures, size_is found))) c.refused-then-limit-size.ensures in
     record { is = all.0; bytes = all.1 }
 
--- The group is within the limit.
-within : (c : goal.Else-limit-size) →
-    let found = c.before.before.before.before.before in
-    prefix_of (l found) + length (kept_of (l found) (s found)) ≤ (l found).limit
-within c = omega (arith, c.if-limit-size.false, c.limit.ensures, size_is c.before.before.before.before.before)
-
 pub returns-then-out-size : goal.returns-then-out-size
 returns-then-out-size c =
+    let some : length (kept_of (l c.before.before) (s c.before.before)) ≡ 0 → ⊥ = λ z. c.if-found-eq0.false (kept-is c.before.before ∙ z) in
+    let within : (let found = c.before.before.before.before.before in
+    prefix_of (l found) + length (kept_of (l found) (s found)) ≤ (l found).limit) = omega (arith, c.if-limit-size.false, c.limit.ensures, size_is c.before.before.before.before.before) in
     let short = c.before.before in
     let kept = short.before.before.before in
     let found = kept.before.before in
-    let all = refuses _ _ _ 12 _ (no_room _ _ _ (enough found.before.before) (some kept) (few-runs found) (within short)
+    let all = refuses _ _ _ 12 _ (no_room _ _ _ (enough found.before.before) (some) (few-runs found) (within)
     (omega (arith, c.if-out-size.true, size_is found))) c.refused-then-out-size.ensures in
     record { is = all.0; bytes = all.1 }
 
@@ -100,6 +94,9 @@ write_group-requires c =
 
 pub returns : goal.returns
 returns c =
+    let some : length (kept_of (l c.before.before) (s c.before.before)) ≡ 0 → ⊥ = λ z. c.if-found-eq0.false (kept-is c.before.before ∙ z) in
+    let within : (let found = c.before.before.before.before.before in
+    prefix_of (l found) + length (kept_of (l found) (s found)) ≤ (l found).limit) = omega (arith, c.if-limit-size.false, c.limit.ensures, size_is c.before.before.before.before.before) in
     let wrote = c.before.before.before.before in
     let fits = wrote.before.before in
     let short = fits.before in
@@ -107,6 +104,6 @@ returns c =
     let found = kept.before.before in
     let w = c.scan-found.ensures.all c.if-found.false in
     let room = length c.args.out.now in
-    let is = done (l found) (s found) room (enough found.before.before) (some kept) (few-runs found) (within short)
+    let is = done (l found) (s found) room (enough found.before.before) (some) (few-runs found) (within)
     (omega (arith, c.if-out-size.false, size_is found)) in
     record { is = reports (l found) (s found) room _ _ _ _ is (size_is found) w.1 w.2 w.3; bytes = rw is c.write_group.ensures }

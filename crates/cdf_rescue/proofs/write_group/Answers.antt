@@ -14,26 +14,9 @@ use Rattle.cdf_rescue.proofs.Copying.{Copying, copy_begun, Turn, turn, Last, las
 use Rattle.cdf_rescue.proofs.Heading.{all-written}
 use Rattle.cdf_rescue.proofs.write_group.Goals as goal
 
--- There are entries for all runs.
-few : (c : goal.In-loop-i) → c.loop-i.i < 64
-few c = omega (arith, c.loop-i-test.true, c.loop-i.invariant.ready.most)
-
-next : (c : goal.In-loop-i) →
-    let turn = c.loop-i in
-    let a = c.args in
-    Turn (layout_of a.edition) a.s.now a.out.now a.found.from a.found.to a.found.runs turn.at turn.place turn.i
-    turn.out turn.invariant (get_or a.found.from turn.i 0) (get_or a.found.to turn.i 0)
-next c = turn _ _ _ _ _ _ _ _ _ _ c.loop-i.invariant c.loop-i-test.true
-
-end : (c : goal.After-loop-i) →
-    let turn = c.loop-i in
-    let a = c.args in
-    Last (layout_of a.edition) a.s.now a.out.now a.found.from a.found.to a.found.runs turn.at turn.place turn.i
-    turn.out turn.invariant
-end c = last _ _ _ _ _ _ _ _ _ _ c.loop-i.invariant c.loop-i-test.false
-
 pub loop-i-init : goal.loop-i-init
 loop-i-init c =
+    let few : c.loop-i.i < 64 = omega (arith, c.loop-i-test.true, c.loop-i.invariant.ready.most) in
     let a = c.args in
     let k = c.requires in
     let all = k.scanned.all k.all in
@@ -48,62 +31,120 @@ loop-i-init c =
     }))
 
 pub offset_bounds-starts-i : goal.offset_bounds-starts-i
-offset_bounds-starts-i c = omega (arith, few c)
+offset_bounds-starts-i c =
+    let few : c.loop-i.i < 64 = omega (arith, c.loop-i-test.true, c.loop-i.invariant.ready.most) in
+    omega (arith, few)
 
 pub bounds-starts-i : goal.bounds-starts-i
-bounds-starts-i c = few c
+bounds-starts-i c =
+    let few : c.loop-i.i < 64 = omega (arith, c.loop-i-test.true, c.loop-i.invariant.ready.most) in
+    few
 
 pub slice_bounds-write_bytes-count : goal.slice_bounds-write_bytes-count
-slice_bounds-write_bytes-count c = (next c.before).low
+slice_bounds-write_bytes-count c =
+    let next : (let turn = c.loop-i in
+    let a = c.args in
+    Turn (layout_of a.edition) a.s.now a.out.now a.found.from a.found.to a.found.runs turn.at turn.place turn.i
+    turn.out turn.invariant (get_or a.found.from turn.i 0) (get_or a.found.to turn.i 0)) = turn _ _ _ _ _ _ _ _ _ _ c.loop-i.invariant c.loop-i-test.true in
+    (next).low
 
 pub slice_bounds-write_bytes-start : goal.slice_bounds-write_bytes-start
-slice_bounds-write_bytes-start c = omega (arith, (next c.before).low, (next c.before).high)
+slice_bounds-write_bytes-start c =
+    let next : (let turn = c.loop-i in
+    let a = c.args in
+    Turn (layout_of a.edition) a.s.now a.out.now a.found.from a.found.to a.found.runs turn.at turn.place turn.i
+    turn.out turn.invariant (get_or a.found.from turn.i 0) (get_or a.found.to turn.i 0)) = turn _ _ _ _ _ _ _ _ _ _ c.loop-i.invariant c.loop-i-test.true in
+    omega (arith, (next).low, (next).high)
 
 pub slice_bounds-write_bytes-end : goal.slice_bounds-write_bytes-end
-slice_bounds-write_bytes-end c = omega (arith, (next c.before).high)
+slice_bounds-write_bytes-end c =
+    let next : (let turn = c.loop-i in
+    let a = c.args in
+    Turn (layout_of a.edition) a.s.now a.out.now a.found.from a.found.to a.found.runs turn.at turn.place turn.i
+    turn.out turn.invariant (get_or a.found.from turn.i 0) (get_or a.found.to turn.i 0)) = turn _ _ _ _ _ _ _ _ _ _ c.loop-i.invariant c.loop-i-test.true in
+    omega (arith, (next).high)
 
 pub overflow_sub-place : goal.overflow_sub-place
-overflow_sub-place c = (next c.before.before.before.before.before).low
+overflow_sub-place c =
+    let next : (let turn = c.loop-i in
+    let a = c.args in
+    Turn (layout_of a.edition) a.s.now a.out.now a.found.from a.found.to a.found.runs turn.at turn.place turn.i
+    turn.out turn.invariant (get_or a.found.from turn.i 0) (get_or a.found.to turn.i 0)) = turn _ _ _ _ _ _ _ _ _ _ c.loop-i.invariant c.loop-i-test.true in
+    (next).low
 
 pub overflow_add-place : goal.overflow_add-place
-overflow_add-place c = omega (arith, (next c.before.before.before.before.before).place_low)
+overflow_add-place c =
+    let next : (let turn = c.loop-i in
+    let a = c.args in
+    Turn (layout_of a.edition) a.s.now a.out.now a.found.from a.found.to a.found.runs turn.at turn.place turn.i
+    turn.out turn.invariant (get_or a.found.from turn.i 0) (get_or a.found.to turn.i 0)) = turn _ _ _ _ _ _ _ _ _ _ c.loop-i.invariant c.loop-i-test.true in
+    omega (arith, (next).place_low)
 
 pub offset_bounds-ends-i : goal.offset_bounds-ends-i
-offset_bounds-ends-i c = omega (arith, few c.before.before.before.before.before)
+offset_bounds-ends-i c =
+    let few : c.loop-i.i < 64 = omega (arith, c.loop-i-test.true, c.loop-i.invariant.ready.most) in
+    omega (arith, few)
 
 pub bounds-ends-i : goal.bounds-ends-i
-bounds-ends-i c = few c.before.before.before.before.before
+bounds-ends-i c =
+    let few : c.loop-i.i < 64 = omega (arith, c.loop-i-test.true, c.loop-i.invariant.ready.most) in
+    few
 
 pub overflow_add-i : goal.overflow_add-i
-overflow_add-i c = omega (arith, few c.before.before.before.before.before)
+overflow_add-i c =
+    let few : c.loop-i.i < 64 = omega (arith, c.loop-i-test.true, c.loop-i.invariant.ready.most) in
+    omega (arith, few)
 
 pub loop-i-smaller : goal.loop-i-smaller
 loop-i-smaller c = omega arith
 
 pub loop-i-preserved : goal.loop-i-preserved
-loop-i-preserved c = (next c.before.before.before.before.before).on _ c.write_bytes.ensures
+loop-i-preserved c =
+    let next : (let turn = c.loop-i in
+    let a = c.args in
+    Turn (layout_of a.edition) a.s.now a.out.now a.found.from a.found.to a.found.runs turn.at turn.place turn.i
+    turn.out turn.invariant (get_or a.found.from turn.i 0) (get_or a.found.to turn.i 0)) = turn _ _ _ _ _ _ _ _ _ _ c.loop-i.invariant c.loop-i-test.true in
+    (next).on _ c.write_bytes.ensures
 
 pub slice_bounds-write_bytes-count-2 : goal.slice_bounds-write_bytes-count-2
-slice_bounds-write_bytes-count-2 c = (end c.before).low
+slice_bounds-write_bytes-count-2 c =
+    let end : (let turn = c.loop-i in
+    let a = c.args in
+    Last (layout_of a.edition) a.s.now a.out.now a.found.from a.found.to a.found.runs turn.at turn.place turn.i
+    turn.out turn.invariant) = last _ _ _ _ _ _ _ _ _ _ c.loop-i.invariant c.loop-i-test.false in
+    (end).low
 
 pub slice_bounds-write_bytes-start-2 : goal.slice_bounds-write_bytes-start-2
-slice_bounds-write_bytes-start-2 c = omega (arith, (end c.before).low)
+slice_bounds-write_bytes-start-2 c =
+    let end : (let turn = c.loop-i in
+    let a = c.args in
+    Last (layout_of a.edition) a.s.now a.out.now a.found.from a.found.to a.found.runs turn.at turn.place turn.i
+    turn.out turn.invariant) = last _ _ _ _ _ _ _ _ _ _ c.loop-i.invariant c.loop-i-test.false in
+    omega (arith, (end).low)
 
 pub overflow_sub-s : goal.overflow_sub-s
-overflow_sub-s c = (end c.before.before.before.before.before.before.before.before.before.before.before).low
+overflow_sub-s c =
+    let end : (let turn = c.loop-i in
+    let a = c.args in
+    Last (layout_of a.edition) a.s.now a.out.now a.found.from a.found.to a.found.runs turn.at turn.place turn.i
+    turn.out turn.invariant) = last _ _ _ _ _ _ _ _ _ _ c.loop-i.invariant c.loop-i-test.false in
+    (end).low
 
 pub overflow_add-place-2 : goal.overflow_add-place-2
 overflow_add-place-2 c =
-    let done = c.before.before.before.before.before.before.before.before.before.before.before in
+    let end : (let turn = c.loop-i in
+    let a = c.args in
+    Last (layout_of a.edition) a.s.now a.out.now a.found.from a.found.to a.found.runs turn.at turn.place turn.i
+    turn.out turn.invariant) = last _ _ _ _ _ _ _ _ _ _ c.loop-i.invariant c.loop-i-test.false in
     let k = c.requires in
-    omega (arith, (end done).size, k.fits)
+    omega (arith, (end).size, k.fits)
 
 -- All that was written: the last bytes, the prefix, and its length.
 written : (c : goal.After-slice_known-4-1) →
     let done = c.before.before.before.before.before.before.before.before.before.before.before.before.before.before in
     let a = c.args in
     let l = layout_of a.edition in
-    c.write_length.new.1.0 ≡ patch 0 (group_of l (kept_of l a.s.now)) a.out.now
+    c.write_length.new.buffer ≡ patch 0 (group_of l (kept_of l a.s.now)) a.out.now
 written c =
     let headed-last = c.before.before in
     let unit = headed-last.before.before.before.before in

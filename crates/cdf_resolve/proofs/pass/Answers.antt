@@ -20,16 +20,6 @@ use Rattle.cdf_resolve_spec.proofs.Pairing.{Orderly, orderly}
 use Rattle.cdf_resolve.proofs.Walking.{Walking, walk-begun, walk-over, walk-ready, walk-lies, walk-fits, walk-on, root_width}
 use Rattle.cdf_resolve.proofs.pass.Goals as goal
 
--- The head of the loop, where a unit is in hand, the bytes, and the layout that they are read in.
-abbrev bytes : goal.At-loop-a → List ℕ
-bytes turn = turn.args.s.now
-
-abbrev l : goal.At-loop-a → Layout
-l turn = layout_for (bytes turn)
-
-abbrev before : goal.At-loop-a → List ℕ
-before turn = turn.args.list.now
-
 pub loop-a-init : goal.loop-a-init
 unfolding name_row
 loop-a-init c =
@@ -42,12 +32,13 @@ loop-a-init c =
 
 pub meet-t-requires : goal.meet-t-requires
 meet-t-requires c =
-    let turn = c.before.before.before.before.before.before.before in
+    let bytes = c.args.s.now in
+    let l = layout_for (bytes) in
     let i = c.loop-a.invariant in
     let taken = c.loop-a-test.true in (
       i.4,
-      walk-ready (l turn) (bytes turn) i.0 i.1 _ _ _ _ _ _ _ _ i.2 taken,
-      walk-lies (l turn) (bytes turn) i.0 i.1 _ _ _ _ _ _ _ _ i.2 taken,
+      walk-ready (l) (bytes) i.0 i.1 _ _ _ _ _ _ _ _ i.2 taken,
+      walk-lies (l) (bytes) i.0 i.1 _ _ _ _ _ _ _ _ i.2 taken,
     )
 
 -- A unit was in hand, and was met.
@@ -67,12 +58,16 @@ module _ (c : goal.After-advance-a) where
 
 pub loop-a-smaller : goal.loop-a-smaller
 loop-a-smaller c =
+    let bytes = c.args.s.now in
+    let l = layout_for (bytes) in
     let turn = head c in
     less (l turn) (bytes turn) _ _ (reply_of c.advance-a.result) (taken c) (turn.loop.inv.2.count (taken c)).1
     (rw (← next c) at (next-later (l turn) (bytes turn) (view turn.loop.a.place)))
 
 pub loop-a-preserved : goal.loop-a-preserved
 loop-a-preserved c =
+    let bytes = c.args.s.now in
+    let l = layout_for (bytes) in
     let turn = head c in
     let i = turn.loop.inv in (
       i.0,
@@ -84,11 +79,15 @@ loop-a-preserved c =
     )
 
 pub shape_of-list : goal.shape_of-list
-shape_of-list c = let w = c.loop-a.invariant.2 in ap length w.written ∙ length-sets (before c.before.before) 0 w.pass.ranks
+shape_of-list c =
+    let before = c.args.list.now in
+    let w = c.loop-a.invariant.2 in ap length w.written ∙ length-sets (before) 0 w.pass.ranks
 
 pub returns : goal.returns
 returns c =
-    let turn = c.before.before in
+    let bytes = c.args.s.now in
+    let l = layout_for (bytes) in
+    let before = c.args.list.now in
     let i = c.loop-a.invariant in
-    walk-over (l turn) (bytes turn) i.0 i.1 (before turn) _ _ _ _ _ _ _ i.2 c.loop-a-test.false
+    walk-over (l) (bytes) i.0 i.1 (before) _ _ _ _ _ _ _ i.2 c.loop-a-test.false
     c.requires.0

@@ -9,10 +9,9 @@ use Rattle.cdf_table_reader.proofs.first_in.Goals as goal
 pub returns : goal.returns
 returns c =
     let is = c.answered.ensures in
-    let told = c.first_by-o.ensures in
-    let all = rw (← c.edition_of-edition.ensures) (
-      ap reply_of is ∙ told.0,
-      λ some.
-          ap (λ (a : Answer). a.place) is ∙ ap place_with (told.1 (λ z. some (ap (λ (a : Answer). a.number) is ∙ z))),
-    ) in
-    record { is = all.0; kept = all.1 }
+    let told = (c.first_by-o.ensures.is, c.first_by-o.ensures.kept) in
+    rw (← c.edition_of-edition.ensures) (record {
+      is = ap reply_of is ∙ told.0;
+      kept = λ some.
+          ap (λ (a : Answer). a.place) is ∙ ap place_with (told.1 (λ z. some (ap (λ (a : Answer). a.number) is ∙ z)));
+    })

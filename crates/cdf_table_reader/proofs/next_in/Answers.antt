@@ -8,8 +8,4 @@ use Rattle.cdf_table_reader.proofs.next_in.Goals as goal
 
 pub returns : goal.returns
 returns c =
-    let all = rw (← c.edition_of-edition.ensures) (
-      due _ _ c.cursor-c.ensures _ _ c.answered.ensures (table_next _ (layout_of c.edition_of-edition.result) _) c.next_by-o.ensures.is,
-      keeps _ _ c.cursor-c.ensures _ _ c.answered.ensures Next c.next_by-o.ensures.kept,
-    ) in
-    record { is = all.0; kept = all.1 }
+    rw (← c.edition_of-edition.ensures) (record { is = due _ _ c.cursor-c.ensures _ _ c.answered.ensures (table_next _ (layout_of c.edition_of-edition.result) _) c.next_by-o.ensures.is; kept = keeps _ _ c.cursor-c.ensures _ _ c.answered.ensures Next c.next_by-o.ensures.kept })

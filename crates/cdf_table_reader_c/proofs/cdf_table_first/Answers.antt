@@ -11,11 +11,10 @@ use Rattle.cdf_table_reader_spec.proofs.Alike.{first_alike}
 use Rattle.cdf_table_reader_spec.proofs.Other.{start_other}
 use Rattle.cdf_table_reader_c.proofs.cdf_table_first.Goals as goal
 
-answered : (c : goal.After-write_unit) →
-    let a = c.args in
-    Answered Start a.s.now a.place.now c.table_first-a.result c.write_unit.new.1.0
-answered c =
-    let a = c.args in
+pub returns : goal.returns
+returns c =
+    let answered : (let a = c.args in
+    Answered Start a.s.now a.place.now c.table_first-a.result c.write_unit.new.a) = let a = c.args in
     record {
       place = place_from a.place.now;
       read = refl;
@@ -25,7 +24,5 @@ answered c =
       part = no_part;
       by = refl;
       written = c.write_unit.ensures;
-    }
-
-pub returns : goal.returns
-returns c = leaves-new (answered c.before.before.before) refl _ c.write_place.ensures
+    } in
+    leaves-new (answered) refl _ c.write_place.ensures

@@ -10,13 +10,11 @@ use Rattle.cdf_table_reader_spec.proofs.Alike.{next-alike}
 use Rattle.cdf_table_reader_spec.proofs.Other.{next_other}
 use Rattle.cdf_table_reader_c.proofs.cdf_table_next.Goals as goal
 
--- What is known once the answer is written, whichever way the place goes.
-answered : (c : goal.After-write_unit) →
-    let call = c.before.before in
+pub returns-then-a-ne0 : goal.returns-then-a-ne0
+returns-then-a-ne0 c =
+    let answered : (let call = c.before.before in
     let a = c.args in
-    Answered Next a.s.now a.place.now c.next-a.result c.write_unit.new.1.0
-answered c =
-    let call = c.before.before in
+    Answered Next a.s.now a.place.now c.next-a.result c.write_unit.new.a) = let call = c.before.before in
     let read = call.before in
     record {
       place = c.place_from-p.result;
@@ -27,12 +25,23 @@ answered c =
       part = no_part;
       by = refl;
       written = c.write_unit.ensures;
-    }
-
-pub returns-then-a-ne0 : goal.returns-then-a-ne0
-returns-then-a-ne0 c = leaves-old (answered c.before.before) (rw (ne_eqb _ 0 c.if-a-ne0.true))
+    } in
+    leaves-old (answered) (rw (ne_eqb _ 0 c.if-a-ne0.true))
 
 pub returns : goal.returns
 returns c =
-    let new = c.before.before.before in
-    leaves-new (answered new.before.before) (rw (eq-eqb _ 0 c.if-a-ne0.false)) _ c.write_place.ensures
+    let answered : (let call = c.before.before in
+    let a = c.args in
+    Answered Next a.s.now a.place.now c.next-a.result c.write_unit.new.a) = let call = c.before.before in
+    let read = call.before in
+    record {
+      place = c.place_from-p.result;
+      read = c.place_from-p.ensures;
+      due = c.next-a.ensures.is ∙ next-alike _ _ _ ∙ sym (next-named _ _ _);
+      kept = c.next-a.ensures.kept;
+      again = λ e. next_other e;
+      part = no_part;
+      by = refl;
+      written = c.write_unit.ensures;
+    } in
+    leaves-new (answered) (rw (eq-eqb _ 0 c.if-a-ne0.false)) _ c.write_place.ensures

@@ -16,4 +16,4 @@ run_by-count-requires c =
 pub returns : goal.returns
 returns c =
     let a = c.args in
-    leaves_all a.s.now a.calls.now a.log.now (omega (arith, c.if-log-calls.false)) _ _ c.run_by-count.ensures
+    leaves_all a.s.now a.calls.now a.log.now (omega (arith, c.if-log-calls.false)) _ _ (c.run_by-count.ensures.count, c.run_by-count.ensures.written)

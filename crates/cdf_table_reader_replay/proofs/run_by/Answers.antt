@@ -13,18 +13,6 @@ use Rattle.cdf_table_reader_replay_spec.specs.Replay.{heard}
 use Rattle.cdf_table_reader_replay_spec.proofs.Turning.{goes, unheard, turned}
 use Rattle.cdf_table_reader_replay.proofs.run_by.Goals as goal
 
--- There is room for all codes of the run; the log is as long as it was,
-kept : (turn : goal.At-loop-k) → length turn.loop-k.log ≡ length turn.args.log.now
-kept turn =
-    let a = turn.args in
-    long a.s.now (map heard a.calls.now) a.log.now (omega (arith, turn.requires.1, length-map a.calls.now heard)) turn.loop-k.invariant
-
--- and has room for one more entry.
-room : (going : goal.In-loop-k) → going.loop-k.at + 11 ≤ length going.loop-k.log
-room going =
-    let turn = going.before in
-    omega (arith, kept turn, going.loop-k.invariant.eleven, going.requires.1, going.loop-k-test.true)
-
 pub loop-k-init : goal.loop-k-init
 loop-k-init c =
     let a = c.args in
@@ -34,7 +22,10 @@ pub bounds-calls-k : goal.bounds-calls-k
 bounds-calls-k c = c.loop-k-test.true
 
 pub shape_of-log-then-not-is_shared : goal.shape_of-log-then-not-is_shared
-shape_of-log-then-not-is_shared c = kept c.before.before.before.before
+shape_of-log-then-not-is_shared c =
+    let kept : length c.loop-k.log ≡ length c.args.log.now = let a = c.args in
+    long a.s.now (map heard a.calls.now) a.log.now (omega (arith, c.requires.1, length-map a.calls.now heard)) c.loop-k.invariant in
+    kept
 
 pub returns-then-not-is_shared : goal.returns-then-not-is_shared
 returns-then-not-is_shared c =
@@ -49,23 +40,40 @@ returns-then-not-is_shared c =
 
 pub offset_bounds-log-at : goal.offset_bounds-log-at
 offset_bounds-log-at c =
+    let kept : length c.loop-k.log ≡ length c.args.log.now = let a = c.args in
+    long a.s.now (map heard a.calls.now) a.log.now (omega (arith, c.requires.1, length-map a.calls.now heard)) c.loop-k.invariant in
+    let room : c.loop-k.at + 11 ≤ length c.loop-k.log = let turn = c.before in
+    omega (arith, kept turn, c.loop-k.invariant.eleven, c.requires.1, c.loop-k-test.true) in
     let going = c.before.before.before.before in
     let start = going.before.before.before.before.before.before.before in
-    omega (arith, kept going.before, room going, start.well-formed.1.1.1.0.1)
+    omega (arith, kept, room, start.well-formed.1.1.1.0.1)
 
 pub slice_bounds-write_entry-count : goal.slice_bounds-write_entry-count
-slice_bounds-write_entry-count c = let going = c.before.before.before.before in omega (arith, room going)
+slice_bounds-write_entry-count c =
+    let kept : length c.loop-k.log ≡ length c.args.log.now = let a = c.args in
+    long a.s.now (map heard a.calls.now) a.log.now (omega (arith, c.requires.1, length-map a.calls.now heard)) c.loop-k.invariant in
+    let room : c.loop-k.at + 11 ≤ length c.loop-k.log = let turn = c.before in
+    omega (arith, kept turn, c.loop-k.invariant.eleven, c.requires.1, c.loop-k-test.true) in
+    omega (arith, room)
 
 pub slice_bounds-write_entry-start : goal.slice_bounds-write_entry-start
-slice_bounds-write_entry-start c = let going = c.before.before.before.before in omega (arith, room going)
+slice_bounds-write_entry-start c =
+    let kept : length c.loop-k.log ≡ length c.args.log.now = let a = c.args in
+    long a.s.now (map heard a.calls.now) a.log.now (omega (arith, c.requires.1, length-map a.calls.now heard)) c.loop-k.invariant in
+    let room : c.loop-k.at + 11 ≤ length c.loop-k.log = let turn = c.before in
+    omega (arith, kept turn, c.loop-k.invariant.eleven, c.requires.1, c.loop-k-test.true) in
+    omega (arith, room)
 
 pub slice_bounds-write_entry-end : goal.slice_bounds-write_entry-end
 slice_bounds-write_entry-end c = omega arith
 
 pub write_entry-requires : goal.write_entry-requires
 write_entry-requires c =
-    let going = c.before.before.before.before.before in
-    rw (rest c.loop-k.at c.loop-k.log, length-drop) (omega (arith, room going))
+    let kept : length c.loop-k.log ≡ length c.args.log.now = let a = c.args in
+    long a.s.now (map heard a.calls.now) a.log.now (omega (arith, c.requires.1, length-map a.calls.now heard)) c.loop-k.invariant in
+    let room : c.loop-k.at + 11 ≤ length c.loop-k.log = let turn = c.before in
+    omega (arith, kept turn, c.loop-k.invariant.eleven, c.requires.1, c.loop-k-test.true) in
+    rw (rest c.loop-k.at c.loop-k.log, length-drop) (omega (arith, room))
 
 pub overflow_add-k : goal.overflow_add-k
 overflow_add-k c =
@@ -75,9 +83,13 @@ overflow_add-k c =
 
 pub overflow_add-at : goal.overflow_add-at
 overflow_add-at c =
+    let kept : length c.loop-k.log ≡ length c.args.log.now = let a = c.args in
+    long a.s.now (map heard a.calls.now) a.log.now (omega (arith, c.requires.1, length-map a.calls.now heard)) c.loop-k.invariant in
+    let room : c.loop-k.at + 11 ≤ length c.loop-k.log = let turn = c.before in
+    omega (arith, kept turn, c.loop-k.invariant.eleven, c.requires.1, c.loop-k-test.true) in
     let going = c.before.before.before.before.before.before.before.before.before in
     let start = going.before.before.before.before.before.before.before in
-    omega (arith, kept going.before, room going, start.well-formed.1.1.1.0.1)
+    omega (arith, kept, room, start.well-formed.1.1.1.0.1)
 
 pub loop-k-smaller : goal.loop-k-smaller
 loop-k-smaller c = omega (arith, c.loop-k-test.true)
@@ -89,11 +101,14 @@ loop-k-preserved c =
     turned a.s.now a.calls.now a.log.now c.loop-k.invariant c.loop-k-test.true
     shared _ c.turn_by-o.result
     (goes a.table.now a.s.now c.requires.0 c.loop-k.c c.loop-k.invariant.held (get_or a.calls.now c.loop-k.k 0) shared
-    c.turn_by-o.result (rw c.edition_of-edition.ensures at c.turn_by-o.ensures))
+    c.turn_by-o.result (rw c.edition_of-edition.ensures at (c.turn_by-o.ensures.is, c.turn_by-o.ensures.kept)))
     c.write_entry.ensures
 
 pub shape_of-log : goal.shape_of-log
-shape_of-log c = kept c.before
+shape_of-log c =
+    let kept : length c.loop-k.log ≡ length c.args.log.now = let a = c.args in
+    long a.s.now (map heard a.calls.now) a.log.now (omega (arith, c.requires.1, length-map a.calls.now heard)) c.loop-k.invariant in
+    kept
 
 pub returns : goal.returns
 returns c =

@@ -19,5 +19,5 @@ returns-then-not-is_fit c =
 pub returns : goal.returns
 returns c =
     let all = goes_on _ _ _ _ c.if-c-eq0.false (sym c.is_fit.ensures ∙ not-false c.is_fit.result c.if-not-is_fit.false-raw) c.advance_by.result
-    c.advance_by.ensures in
+    (c.advance_by.ensures.is, c.advance_by.ensures.kept) in
     record { is = all.0; kept = all.1 }

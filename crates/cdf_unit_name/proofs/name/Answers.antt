@@ -10,7 +10,6 @@ use Rattle.cdf_unit_data.specs.Data.{name_by, spelled}
 use Rattle.cdf_unit_data.specs.Standing.{row_bytes}
 use Rattle.cdf_unit_data.proofs.Names.{front-short, name-none, name-is, name_by_lem}
 use Rattle.cdf_unit_name.proofs.name.Goals as goal
-use Rattle.cdf_unit_name.proofs.name.Tie as tie
 
 pub returns-then-s-eq0 : goal.returns-then-s-eq0
 returns-then-s-eq0 c = name-none _ _ c.if-s-eq0.true
@@ -31,15 +30,6 @@ returns-then-s-count c =
     (name-is _ _ c.if-s-eq0.false _ refl
     ∙ rw (le-leb 1 _ c.if-count-lt1.false, le-leb _ 32 c.if-count-gt32.false, lt-leb _ _ c.if-s-count.true))
 
--- With a right count the bytes after it are spelled, by their front.
-right_count : (c : tie.After-name_front-front) →
-    let a = c.args in
-    let s = a.s.now in
-    name_by (row_bytes a.row.now) s ≡ spelled (get_or s 0 0) c.name_front-front.result
-right_count c =
-    name_by_lem _ _ c.if-s-eq0.false _ refl c.if-count-lt1.false c.if-count-gt32.false c.if-s-count.false
-    ∙ rw (← (simp minus_one at c.name_front-front.ensures))
-
 pub overflow_add-bad : goal.overflow_add-bad
 overflow_add-bad c =
     let a = c.args in
@@ -48,8 +38,18 @@ overflow_add-bad c =
 
 pub returns-then-front-count : goal.returns-then-front-count
 unfolding spelled
-returns-then-front-count c = sym (right_count c.before ∙ rw (eq-eqb _ _ c.if-front-count.true))
+returns-then-front-count c =
+    let right_count : (let a = c.args in
+    let s = a.s.now in
+    name_by (row_bytes a.row.now) s ≡ spelled (get_or s 0 0) c.name_front-front.result) = name_by_lem _ _ c.if-s-eq0.false _ refl c.if-count-lt1.false c.if-count-gt32.false c.if-s-count.false
+    ∙ rw (← (simp minus_one at c.name_front-front.ensures)) in
+    sym (right_count ∙ rw (eq-eqb _ _ c.if-front-count.true))
 
 pub returns-else-front-count : goal.returns-else-front-count
 unfolding spelled
-returns-else-front-count c = sym (right_count c.before ∙ rw (ne_eqb _ _ c.if-front-count.false))
+returns-else-front-count c =
+    let right_count : (let a = c.args in
+    let s = a.s.now in
+    name_by (row_bytes a.row.now) s ≡ spelled (get_or s 0 0) c.name_front-front.result) = name_by_lem _ _ c.if-s-eq0.false _ refl c.if-count-lt1.false c.if-count-gt32.false c.if-s-count.false
+    ∙ rw (← (simp minus_one at c.name_front-front.ensures)) in
+    sym (right_count ∙ rw (ne_eqb _ _ c.if-front-count.false))

@@ -13,14 +13,6 @@ use Rattle.cdf_builder_spec.specs.declared.Parts.{Parts}
 use Rattle.cdf_builder.specs.View.{view}
 use Rattle.cdf_builder.proofs.Builder.finish.Goals as goal
 
--- The parts are those of the struct.
-fit : (c : goal.After-is_fit) →
-    let a = c.args in
-    c.is_fit.result ≡ fits (layout_of First) (length a.buffer.now) (view a.self)
-fit c =
-    let n = length c.args.buffer.now in
-    c.is_fit.ensures ∙ ap (λ (p : Parts). fits (layout_of First) n (placed p)) c.parts-p.ensures
-
 -- Of a place that fits, by whether its units are complete.
 asked : (c : goal.After-is_completed) →
     let a = c.args in
@@ -37,7 +29,11 @@ asked c =
 
 pub returns-then-not-is_fit : goal.returns-then-not-is_fit
 unfolding finish_of
-returns-then-not-is_fit c = rw (← fit c.before, not-true c.is_fit.result c.if-not-is_fit.true-raw)
+returns-then-not-is_fit c =
+    let fit : (let a = c.args in
+    c.is_fit.result ≡ fits (layout_of First) (length a.buffer.now) (view a.self)) = let n = length c.args.buffer.now in
+    c.is_fit.ensures ∙ ap (λ (p : Parts). fits (layout_of First) n (placed p)) c.parts-p.ensures in
+    rw (← fit, not-true c.is_fit.result c.if-not-is_fit.true-raw)
 
 pub returns-then-not-is_completed : goal.returns-then-not-is_completed
 returns-then-not-is_completed c = sym (asked c.before ∙ rw (not-true c.is_completed.result c.if-not-is_completed.true-raw))

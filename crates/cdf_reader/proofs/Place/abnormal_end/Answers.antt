@@ -6,6 +6,4 @@ use Rattle.cdf_reader.proofs.Place.abnormal_end.Goals as goal
 
 pub returns : goal.returns
 unfolding open_units open_ranks
-returns c =
-    let all = rw (c.answered.ensures, c.moved-o.ensures, c.no_cursor-empty.ensures) (refl, refl) in
-    record { is = all.0; cleared = all.1 }
+returns c = rw (c.answered.ensures, c.moved-o.ensures, c.no_cursor-empty.ensures) (record { is = refl; cleared = refl })

@@ -9,12 +9,9 @@ use Rattle.cdf_reader.proofs.Place.call.Goals as goal
 pub returns : goal.returns
 returns c =
     let a = c.args in
-    let all = rw (← c.edition_of-edition.ensures) (
-      due _ _ c.cursor-c.ensures _ _ c.answered.ensures (λ (v : ReaderPlace). call_of (layout_of c.edition_of-edition.result) a.s.now v a.call)
-          c.call_at-o.ensures.is,
-      (
-        keeps _ _ c.cursor-c.ensures _ _ c.answered.ensures a.call c.call_at-o.ensures.kept,
-        λ e. stays _ _ c.cursor-c.ensures _ _ c.answered.ensures (c.call_at-o.ensures.again e),
-      ),
-    ) in
-    record { is = all.0; kept = all.1.0; again = all.1.1 }
+    rw (← c.edition_of-edition.ensures) (record {
+      is = due _ _ c.cursor-c.ensures _ _ c.answered.ensures (λ (v : ReaderPlace). call_of (layout_of c.edition_of-edition.result) a.s.now v a.call)
+          c.call_at-o.ensures.is;
+      kept = keeps _ _ c.cursor-c.ensures _ _ c.answered.ensures a.call c.call_at-o.ensures.kept;
+      again = λ e. stays _ _ c.cursor-c.ensures _ _ c.answered.ensures (c.call_at-o.ensures.again e);
+    })

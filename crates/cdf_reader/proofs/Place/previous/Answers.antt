@@ -10,9 +10,8 @@ use Rattle.cdf_reader.proofs.Place.previous.Goals as goal
 pub returns : goal.returns
 returns c =
     let s = c.args.s.now in
-    let all = rw (← c.edition_of-edition.ensures) (
-      due _ _ c.cursor-c.ensures _ _ c.answered.ensures (previous_of (layout_of c.edition_of-edition.result) s)
-          (c.call_at-o.ensures.is ∙ previous-named _ _ _),
-      stays _ _ c.cursor-c.ensures _ _ c.answered.ensures (c.call_at-o.ensures.again refl),
-    ) in
-    record { is = all.0; kept = all.1 }
+    rw (← c.edition_of-edition.ensures) (record {
+      is = due _ _ c.cursor-c.ensures _ _ c.answered.ensures (previous_of (layout_of c.edition_of-edition.result) s)
+          (c.call_at-o.ensures.is ∙ previous-named _ _ _);
+      kept = stays _ _ c.cursor-c.ensures _ _ c.answered.ensures (c.call_at-o.ensures.again refl);
+    })

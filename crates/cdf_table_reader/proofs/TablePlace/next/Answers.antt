@@ -5,6 +5,4 @@ use Rattle.cdf_table_reader.proofs.TablePlace.next.Goals as goal
 
 pub returns : goal.returns
 unfolding entries
-returns c =
-    let all = c.next_in.ensures in
-    record { is = all.0; kept = all.1 }
+returns c = record { is = c.next_in.ensures.is; kept = c.next_in.ensures.kept }
