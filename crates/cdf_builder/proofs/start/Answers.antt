@@ -7,4 +7,4 @@ use Rattle.cdf_builder.proofs.start.Goals as goal
 pub returns : goal.returns
 returns c =
     let call = c.start_as-decided in
-    record { is = replied_by _ _ c.answer.ensures _ call.ensures.0; kept = kept _ _ c.answer.ensures no_parts call.ensures.1 }
+    record { is = replied_by _ _ c.answer.ensures _ call.ensures.is; kept = kept _ _ c.answer.ensures no_parts call.ensures.kept }

@@ -9,4 +9,4 @@ pub returns : goal.returns
 returns c =
     let wrote = c.write_builder.ensures in
     let call = c.start-built in
-    record { is = written _ _ call.result wrote call.ensures.0; clears = λ some. wrote ∙ ap numbers_of (call.ensures.1 some) }
+    record { is = written _ _ call.result wrote call.ensures.is; clears = λ some. wrote ∙ ap numbers_of (call.ensures.kept some) }

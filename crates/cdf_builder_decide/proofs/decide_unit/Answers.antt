@@ -35,7 +35,7 @@ asked : (c : goal.After-first_state-first) →
     Grows (layout_of a.edition) a.n a.p (unit (record { id = a.id; action = a.action; text = a.«data».now })) left.count left.top
     (c.prefix.result + length a.«data».now) c.first_state-first.result
 asked c =
-    let prefix = (c.prefix.ensures.is, c.prefix.ensures.near) in
+    let prefix = c.prefix.ensures in
     let own = c.before.before.before in
     let told = own.before in
     let joined = told.before.before in
@@ -44,9 +44,9 @@ asked c =
     let fits = fit fitted in
     let a = c.args in
     let size = c.prefix.result + length a.«data».now in
-    let sum = sum_fits a.edition a.n (placed a.p) size fits (omega (arith, prefix.1, small fitted)) in
+    let sum = sum_fits a.edition a.n (placed a.p) size fits (omega (arith, prefix.near, small fitted)) in
     unit_grows _ _ _ _ _ fits _ (sym c.join_place-left.ensures.number ∙ c.if-left-ne0.false) c.join_place-left.ensures.left _ _ (is_known past)
-    (sym c.own_fault-fault.ensures ∙ c.if-fault-ne0.false) _ sum (rw prefix.0) _ c.first_state-first.ensures
+    (sym c.own_fault-fault.ensures ∙ c.if-fault-ne0.false) _ sum (rw prefix.is) _ c.first_state-first.ensures
 
 pub returns-then-not-is_fit : goal.returns-then-not-is_fit
 returns-then-not-is_fit c =

@@ -30,4 +30,4 @@ pub returns-in-Refused : goal.returns-in-Refused
 returns-in-Refused c =
     let check = c.check_as in
     let told = c.in-Refused.is in
-    sym (group-refused _ _ (sym told ∙ check.ensures.1.0) (rw told at check.ensures.0))
+    sym (group-refused _ _ (sym told ∙ check.ensures.is) (rw told at check.ensures.answer))

@@ -7,5 +7,5 @@ use Rattle.cdf_listing_c.proofs.cdf_listing.Goals as goal
 
 pub returns : goal.returns
 returns c =
-    let wrote = (c.write_listing-written.ensures.is, c.write_listing-written.ensures.bytes) in
-    record { number = ap (λ (w : Written). w.number) wrote.0; answer = ap (λ (w : Written). w.length ∷ []) wrote.0; bytes = wrote.1 }
+    let wrote = c.write_listing-written.ensures in
+    record { number = ap (λ (w : Written). w.number) wrote.is; answer = ap (λ (w : Written). w.length ∷ []) wrote.is; bytes = wrote.bytes }

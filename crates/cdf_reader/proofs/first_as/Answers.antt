@@ -9,8 +9,8 @@ use Rattle.cdf_reader.proofs.first_as.Goals as goal
 pub returns : goal.returns
 returns c =
     let is = c.answered.ensures in
-    let told = (c.first_as-o.ensures.is, c.first_as-o.ensures.kept) in record {
-      is = ap reply_of is ∙ told.0;
+    let told = c.first_as-o.ensures in record {
+      is = ap reply_of is ∙ told.is;
       kept = λ some.
-          ap (λ (a : Answer). a.place) is ∙ ap place_with (told.1 (λ z. some (ap (λ (a : Answer). a.number) is ∙ z)));
+          ap (λ (a : Answer). a.place) is ∙ ap place_with (told.kept (λ z. some (ap (λ (a : Answer). a.number) is ∙ z)));
     }

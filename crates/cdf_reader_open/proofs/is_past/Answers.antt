@@ -11,7 +11,7 @@ pub returns-then-b-p : goal.returns-then-b-p
 returns-then-b-p c =
     let p = c.prefix-p in
     let start = c.args in
-    sym (rw (← p.ensures.0) (lt-leb (start.a + p.result) start.b (omega arith)))
+    sym (rw (← p.ensures.is) (lt-leb (start.a + p.result) start.b (omega arith)))
 
 pub returns : goal.returns
 returns c = rw (← c.prefix-p.ensures.is) (taken_off _ _ _ c.if-b-p.false)

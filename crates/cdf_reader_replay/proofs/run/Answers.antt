@@ -46,9 +46,7 @@ offset_bounds-log-at c =
     long a.s.now a.calls.now a.log.now c.requires c.loop-k.invariant.0 in
     let room : c.loop-k.at + 11 ≤ length c.loop-k.log = let a = c.args in
     fits_more a.s.now a.calls.now a.log.now c.requires c.loop-k.invariant.0 c.loop-k-test.true in
-    let going = c.before.before.before.before.before.before.before in
-    let start = going.before.before.before.before.before.before.before in
-    omega (arith, kept, room, start.well-formed.1.1.0.1)
+    omega (arith, kept, room, c.well_formed.1.1.0.1)
 
 pub slice_bounds-write_entry-count : goal.slice_bounds-write_entry-count
 slice_bounds-write_entry-count c =
@@ -81,9 +79,7 @@ overflow_add-at c =
     long a.s.now a.calls.now a.log.now c.requires c.loop-k.invariant.0 in
     let room : c.loop-k.at + 11 ≤ length c.loop-k.log = let a = c.args in
     fits_more a.s.now a.calls.now a.log.now c.requires c.loop-k.invariant.0 c.loop-k-test.true in
-    let going = c.before.before.before.before.before.before.before.before.before.before.before.before in
-    let start = going.before.before.before.before.before.before.before in
-    omega (arith, kept, room, start.well-formed.1.1.0.1)
+    omega (arith, kept, room, c.well_formed.1.1.0.1)
 
 pub loop-k-smaller : goal.loop-k-smaller
 loop-k-smaller c =

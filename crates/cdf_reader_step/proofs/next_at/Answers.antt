@@ -31,6 +31,6 @@ returns c =
     let fit : (let a = c.args in
     fits (layout_of a.edition) (length a.s.now) (cursor_place a.c) ≡ true) = sym c.is_fit.ensures ∙ not-false c.is_fit.result c.if-not-is_fit.false-raw in
     let p = c.args.c in
-    let told = (c.advance.ensures.is, c.advance.ensures.kept) in
-    let all = by_next p _ _ _ (steps p _ _ Next (next-some p c.if-c-eq0.false) (fit) refl c.advance.result told.0 told.1) in
+    let told = c.advance.ensures in
+    let all = by_next p _ _ _ (steps p _ _ Next (next-some p c.if-c-eq0.false) (fit) refl c.advance.result told.is told.kept) in
     record { is = all.0; kept = all.1 }

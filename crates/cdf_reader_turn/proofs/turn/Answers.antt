@@ -51,14 +51,10 @@ unit_lies : (seen : goal.After-judge) {id action own len state : ℕ} → seen.j
     (own ≤ len) × (a.c.position + len < 18446744073709551616)
 unit_lies seen e =
     let inside = seen.before.before in
-    let apart = inside.before.before in
-    let some = apart.before.before in
-    let shut = some.before.before in
-    let start = shut.before.before.before.before.before.before in
     let a = seen.args in
     let w = unit-within (judge_of (layout_of a.edition) false) a.s.now a.c _ _ seen.close-left.ensures seen.if-left-eq0.false seen.if-stop-at.false (lies inside)
     (in_keeps name_bytes (layout_of a.edition) false) (sym seen.judge.ensures ∙ e) in
-    (w.0, omega (arith, w.1, start.well-formed.1.1.0.1))
+    (w.0, omega (arith, w.1, seen.well_formed.1.1.0.1))
 
 pub returns-then-left-eq0 : goal.returns-then-left-eq0
 returns-then-left-eq0 c =
@@ -120,7 +116,6 @@ overflow_add-end c =
 -- The struct has slots for the units, and their ranks are low.
 fitted : (roomy : goal.Else-not-has_room) →
     let ranked = roomy.before.before in
-    let shut = ranked.before.before.before.before.before.before.before.before.before.before.before.before in
     let a = roomy.args in
     Following a.c roomy.close-left.result.count roomy.rank_before-before.result × (roomy.close-left.result.count ≤ 4)
 fitted roomy =
@@ -128,16 +123,12 @@ fitted roomy =
     let ranked = asked.before in
     let seen = ranked.before.before.before.before in
     let inside = seen.before.before in
-    let apart = inside.before.before in
-    let some = apart.before.before in
-    let shut = some.before.before in
-    let start = shut.before.before.before.before.before.before in
     let j = sym roomy.judge.ensures ∙ roomy.in-Found.is in
     let a = roomy.args in
     let judge = judge_of (layout_of a.edition) false in
     let room = sym roomy.has_room.ensures ∙ not-false roomy.has_room.result roomy.if-not-has_room.false-raw in (
       following judge a.s.now a.c _ _ roomy.close-left.ensures roomy.if-left-eq0.false roomy.if-stop-at.false (lies inside) j _ (before ranked) room
-          (omega (arith, start.well-formed.1.1.0.1)),
+          (omega (arith, roomy.well_formed.1.1.0.1)),
       (slots judge a.s.now a.c _ _ roomy.close-left.ensures roomy.if-left-eq0.false roomy.if-stop-at.false (lies inside) j _ (before ranked) room).1,
     )
 

@@ -9,4 +9,4 @@ use Rattle.cdf_rescue_c.proofs.cdf_rescue.Goals as goal
 pub returns : goal.returns
 unfolding report_of
 returns c =
-    let told = c.rescue-told in record { number = ap (λ (r : Report). r.number) told.ensures.0; answer = c.write_answer.ensures ∙ written_is _ told.result told.ensures.0 (search rules); bytes = told.ensures.1 }
+    let told = c.rescue-told in record { number = ap (λ (r : Report). r.number) told.ensures.is; answer = c.write_answer.ensures ∙ written_is _ told.result told.ensures.is (search rules); bytes = told.ensures.bytes }

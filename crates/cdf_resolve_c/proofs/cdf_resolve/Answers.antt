@@ -7,5 +7,5 @@ use Rattle.cdf_resolve_c.proofs.cdf_resolve.Goals as goal
 
 pub returns : goal.returns
 returns c =
-    let r = (c.resolve-told.ensures.is, c.resolve-told.ensures.ranks) in
-    record { number = ap (λ (x : Resolved). x.number) r.0; answer = ap answer_of r.0; ranks = r.1 }
+    let r = c.resolve-told.ensures in
+    record { number = ap (λ (x : Resolved). x.number) r.is; answer = ap answer_of r.is; ranks = r.ranks }

@@ -9,9 +9,9 @@ use Rattle.cdf_table_reader.proofs.first_in.Goals as goal
 pub returns : goal.returns
 returns c =
     let is = c.answered.ensures in
-    let told = (c.first_by-o.ensures.is, c.first_by-o.ensures.kept) in
+    let told = c.first_by-o.ensures in
     rw (← c.edition_of-edition.ensures) (record {
-      is = ap reply_of is ∙ told.0;
+      is = ap reply_of is ∙ told.is;
       kept = λ some.
-          ap (λ (a : Answer). a.place) is ∙ ap place_with (told.1 (λ z. some (ap (λ (a : Answer). a.number) is ∙ z)));
+          ap (λ (a : Answer). a.place) is ∙ ap place_with (told.kept (λ z. some (ap (λ (a : Answer). a.number) is ∙ z)));
     })

@@ -44,9 +44,7 @@ offset_bounds-log-at c =
     long a.s.now (map heard a.calls.now) a.log.now (omega (arith, c.requires.1, length-map a.calls.now heard)) c.loop-k.invariant in
     let room : c.loop-k.at + 11 ≤ length c.loop-k.log = let turn = c.before in
     omega (arith, kept turn, c.loop-k.invariant.eleven, c.requires.1, c.loop-k-test.true) in
-    let going = c.before.before.before.before in
-    let start = going.before.before.before.before.before.before.before in
-    omega (arith, kept, room, start.well-formed.1.1.1.0.1)
+    omega (arith, kept, room, c.well_formed.1.1.1.0.1)
 
 pub slice_bounds-write_entry-count : goal.slice_bounds-write_entry-count
 slice_bounds-write_entry-count c =
@@ -77,9 +75,7 @@ write_entry-requires c =
 
 pub overflow_add-k : goal.overflow_add-k
 overflow_add-k c =
-    let going = c.before.before.before.before.before.before.before.before.before in
-    let start = going.before.before.before.before.before.before.before in
-    omega (arith, c.loop-k-test.true, start.well-formed.1.1.0.1)
+    omega (arith, c.loop-k-test.true, c.well_formed.1.1.0.1)
 
 pub overflow_add-at : goal.overflow_add-at
 overflow_add-at c =
@@ -87,9 +83,7 @@ overflow_add-at c =
     long a.s.now (map heard a.calls.now) a.log.now (omega (arith, c.requires.1, length-map a.calls.now heard)) c.loop-k.invariant in
     let room : c.loop-k.at + 11 ≤ length c.loop-k.log = let turn = c.before in
     omega (arith, kept turn, c.loop-k.invariant.eleven, c.requires.1, c.loop-k-test.true) in
-    let going = c.before.before.before.before.before.before.before.before.before in
-    let start = going.before.before.before.before.before.before.before in
-    omega (arith, kept, room, start.well-formed.1.1.1.0.1)
+    omega (arith, kept, room, c.well_formed.1.1.1.0.1)
 
 pub loop-k-smaller : goal.loop-k-smaller
 loop-k-smaller c = omega (arith, c.loop-k-test.true)

@@ -42,30 +42,22 @@ fault_lies : (seen : goal.After-table_judge) {n k : ℕ} → seen.table_judge.re
     a.c.position + k < 18446744073709551616
 fault_lies seen e =
     let inside = seen.before.before in
-    let apart = inside.before.before in
-    let some = apart.before.before in
-    let shut = some.before.before in
-    let start = shut.before.before.before.before.before.before in
     let a = seen.args in
     let judge = table_judge a.table.now (layout_of a.edition) false in
     let w = fault-within judge a.s.now a.c _ _ seen.close-left.ensures seen.if-left-eq0.false seen.if-stop-at.false (lies inside)
     (table_keeps a.table.now (layout_of a.edition) false) (sym seen.table_judge.ensures ∙ e) in
-    omega (arith, w, start.well-formed.1.1.1.0.1)
+    omega (arith, w, seen.well_formed.1.1.1.0.1)
 
 unit_lies : (seen : goal.After-table_judge) {id action own len state : ℕ} → seen.table_judge.result ≡ Found id action own len state →
     let a = seen.args in
     (own ≤ len) × (a.c.position + len < 18446744073709551616)
 unit_lies seen e =
     let inside = seen.before.before in
-    let apart = inside.before.before in
-    let some = apart.before.before in
-    let shut = some.before.before in
-    let start = shut.before.before.before.before.before.before in
     let a = seen.args in
     let judge = table_judge a.table.now (layout_of a.edition) false in
     let w = unit-within judge a.s.now a.c _ _ seen.close-left.ensures seen.if-left-eq0.false seen.if-stop-at.false (lies inside)
     (table_keeps a.table.now (layout_of a.edition) false) (sym seen.table_judge.ensures ∙ e) in
-    (w.0, omega (arith, w.1, start.well-formed.1.1.1.0.1))
+    (w.0, omega (arith, w.1, seen.well_formed.1.1.1.0.1))
 
 pub returns-then-left-eq0 : goal.returns-then-left-eq0
 returns-then-left-eq0 c =
@@ -131,7 +123,6 @@ overflow_add-end c =
 -- The struct has slots for the units, and their ranks are low.
 fitted : (roomy : goal.Else-not-has_room) →
     let ranked = roomy.before.before in
-    let shut = ranked.before.before.before.before.before.before.before.before.before.before.before.before in
     let a = roomy.args in
     Following a.c roomy.close-left.result.count roomy.rank_before-before.result × (roomy.close-left.result.count ≤ 4)
 fitted roomy =
@@ -139,16 +130,12 @@ fitted roomy =
     let ranked = asked.before in
     let seen = ranked.before.before.before.before in
     let inside = seen.before.before in
-    let apart = inside.before.before in
-    let some = apart.before.before in
-    let shut = some.before.before in
-    let start = shut.before.before.before.before.before.before in
     let j = sym roomy.table_judge.ensures ∙ roomy.in-Found.is in
     let a = roomy.args in
     let judge = table_judge a.table.now (layout_of a.edition) false in
     let room = sym roomy.has_room.ensures ∙ not-false roomy.has_room.result roomy.if-not-has_room.false-raw in (
       following judge a.s.now a.c _ _ roomy.close-left.ensures roomy.if-left-eq0.false roomy.if-stop-at.false (lies inside) j _ (before ranked) room
-          (omega (arith, start.well-formed.1.1.1.0.1)),
+          (omega (arith, roomy.well_formed.1.1.1.0.1)),
       (slots judge a.s.now a.c _ _ roomy.close-left.ensures roomy.if-left-eq0.false roomy.if-stop-at.false (lies inside) j _ (before ranked) room).1,
     )
 

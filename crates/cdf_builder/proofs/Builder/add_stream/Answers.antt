@@ -13,4 +13,4 @@ returns c =
     let call = c.add_stream_as-decided in
     let given = c.parts-p.ensures in
     let a = c.args in
-    let r = group a.bytes.now in record { is = replies _ _ given _ _ c.answer.ensures (λ (p : BuilderPlace). call_of (layout_of First) a.buffer.now p r) _ call.ensures.0; kept = keeps _ _ given _ _ c.answer.ensures call.ensures.1 }
+    let r = group a.bytes.now in record { is = replies _ _ given _ _ c.answer.ensures (λ (p : BuilderPlace). call_of (layout_of First) a.buffer.now p r) _ call.ensures.is; kept = keeps _ _ given _ _ c.answer.ensures call.ensures.kept }

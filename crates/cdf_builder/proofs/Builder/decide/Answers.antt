@@ -13,4 +13,4 @@ returns c =
     let call = c.decide_unit-decided in
     let given = c.parts-p.ensures in
     let a = c.args in
-    let r = unit (record { id = a.id; action = a.action; text = a.«data».now }) in record { is = decides _ _ given _ _ c.answer.ensures (λ (p : BuilderPlace). decide_of (layout_of First) a.n p r) call.ensures.0; kept = keeps _ _ given _ _ c.answer.ensures call.ensures.1 }
+    let r = unit (record { id = a.id; action = a.action; text = a.«data».now }) in record { is = decides _ _ given _ _ c.answer.ensures (λ (p : BuilderPlace). decide_of (layout_of First) a.n p r) call.ensures.is; kept = keeps _ _ given _ _ c.answer.ensures call.ensures.kept }
