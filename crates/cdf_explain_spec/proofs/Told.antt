@@ -62,7 +62,7 @@ module _ (l : Layout) (s : List ℕ) where
       go : (before : List Unit) (p : ReaderPlace) (x : Step) → Stands l s before p x → Inwards (reverse (open_around before))
       go [] p x h = record {}
       go (u ∷ us) p x h =
-          let nested = rw h.0.position at h.0.follow.nested in
+          let nested = simp h.0.position at h.0.follow.nested in
           let w = around_rest u us nested in
           turned (open_around (u ∷ us)) (outer_part w.0 (open_around (u ∷ us)) (after u) (after u) (rw w.1 at nested))
 
