@@ -19,7 +19,7 @@ unfolding finish_of
 returns-then-not-is_fit c =
     let n = length c.args.buffer.now in
     let fit : c.is_fit.result ≡ fits (layout_of First) n (view c.args.self) =
-        c.is_fit.ensures ∙ ap (λ (p : Parts). fits (layout_of First) n (placed p)) c.parts-p.ensures in
+    c.is_fit.ensures ∙ ap (λ (p : Parts). fits (layout_of First) n (placed p)) c.parts-p.ensures in
     rw (← fit, not-true c.is_fit.result c.if-not-is_fit.true-raw)
 
 pub returns-then-not-is_completed : goal.returns-then-not-is_completed
@@ -27,7 +27,7 @@ unfolding finish_of
 returns-then-not-is_completed c =
     let n = length c.args.buffer.now in
     let fit : c.is_fit.result ≡ fits (layout_of First) n (view c.args.self) =
-        c.is_fit.ensures ∙ ap (λ (p : Parts). fits (layout_of First) n (placed p)) c.parts-p.ensures in
+    c.is_fit.ensures ∙ ap (λ (p : Parts). fits (layout_of First) n (placed p)) c.parts-p.ensures in
     rw (
       ← fit,
       not-false c.is_fit.result c.if-not-is_fit.false-raw,
@@ -40,7 +40,7 @@ unfolding finish_of
 returns c =
     let n = length c.args.buffer.now in
     let fit : c.is_fit.result ≡ fits (layout_of First) n (view c.args.self) =
-        c.is_fit.ensures ∙ ap (λ (p : Parts). fits (layout_of First) n (placed p)) c.parts-p.ensures in
+    c.is_fit.ensures ∙ ap (λ (p : Parts). fits (layout_of First) n (placed p)) c.parts-p.ensures in
     rw (
       ← fit,
       not-false c.is_fit.result c.if-not-is_fit.false-raw,
