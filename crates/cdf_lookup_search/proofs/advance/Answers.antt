@@ -24,7 +24,7 @@ returns-then-holds-2 c =
       lt-ltb _ _ c.if-u-end.false,
       ← c.holds-in-Inside.ensures,
       c.if-holds-2.true,
-      ← c.value_of_lem.ensures,
+      ← c.value_of.ensures,
     )
 
 pub returns-else-holds : goal.returns-else-holds
