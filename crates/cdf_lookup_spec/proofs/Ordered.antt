@@ -92,7 +92,8 @@ module _ (l : Layout) where
   keyed at none c = record {}
   keyed at (tree id action text inner rest) c =
       let x = at + prefix_of l + length text in
-      let end = at + prefix_of l + (length text + length (encode l inner)) in (
-        (λ e. next_on _ (list l x inner) (list l end rest) (next-key _ x inner (rw e at c.0.holds) (omega arith))),
+      let end = at + prefix_of l + (length text + length (encode l inner)) in
+      let t : Unit = record { id = id; action = action; start = at; own = x; end = end } in (
+        (λ e. next_on t (list l x inner) (list l end rest) (next-key t x inner (rw e at c.0.holds) (omega arith))),
         keyed_both (list l x inner) (list l end rest) (keyed x inner c.1) (keyed end rest c.2),
       )

@@ -1,6 +1,5 @@
 -- By the state: what the tests say is what the definition asks.
-use borrow.Author.Tests.{lt-ltb, le-ltb, not-true, not-false}
-use borrow.Author.Rules.{rules}
+use borrow.Author.Tests.{lt-ltb, le-ltb}
 use Rattle.cdf_lookup_spec.specs.Search.{advance_of}
 use Rattle.cdf_lookup_search.proofs.advance.Goals as goal
 
@@ -10,7 +9,7 @@ returns-then-holds c = rw (c.in-Seeking.is, ← c.holds.ensures, c.if-holds.true
 
 pub returns-then-not-holds : goal.returns-then-not-holds
 unfolding advance_of
-returns-then-not-holds c = rw (c.in-Named.is, ← c.holds-in-Named.ensures, not-true c.holds-in-Named.result c.if-not-holds.true-raw)
+returns-then-not-holds c = rw (c.in-Named.is, ← c.holds-in-Named.ensures, c.if-not-holds.true)
 
 pub returns-then-u-end : goal.returns-then-u-end
 unfolding advance_of
@@ -24,7 +23,7 @@ returns-then-holds-2 c =
       lt-ltb _ _ c.if-u-end.false,
       ← c.holds-in-Inside.ensures,
       c.if-holds-2.true,
-      ← c.value_of_lem.ensures,
+      ← c.value_of.ensures,
     )
 
 pub returns-else-holds : goal.returns-else-holds
@@ -33,8 +32,7 @@ returns-else-holds c = rw (c.in-Seeking.is, ← c.holds.ensures, c.if-holds.fals
 
 pub returns-else-not-holds : goal.returns-else-not-holds
 unfolding advance_of
-returns-else-not-holds c =
-    rw (c.in-Named.is, ← c.holds-in-Named.ensures, not-false c.holds-in-Named.result c.if-not-holds.false-raw)
+returns-else-not-holds c = rw (c.in-Named.is, ← c.holds-in-Named.ensures, c.if-not-holds.false)
 
 pub returns-else-holds-2 : goal.returns-else-holds-2
 unfolding advance_of
