@@ -19,29 +19,23 @@ use Rattle.cdf_batch_turn.proofs.fault.Goals as goal
 pub returns-then-joined-ne0 : goal.returns-then-joined-ne0
 returns-then-joined-ne0 c = rw (ne_eqb _ 0 c.if-joined-ne0.true)
 
--- Good bounds lie in the text and do not cross.
-within : (text : List ℕ) (r : UnitRequest) → bounded text r ≡ true → (r.begin ≤ r.end) × (r.end ≤ length text)
-within text r good =
-    let w = both (leb r.begin r.end) (leb r.end (length text)) good in
-    (leb-true r.begin r.end w.0, leb-true r.end (length text) w.1)
-
 pub returns-then-action_allowed : goal.returns-then-action_allowed
 unfolding fault_of
 returns-then-action_allowed c =
-    let bad : bounded c.args.text.now c.args.r ≡ false = not-true _ c.if-not-good.true-raw in
+    let bad : bounded c.args.text.now c.args.r ≡ false = search rules in
     rw (eq-eqb _ 0 c.if-joined-ne0.false, bad, sym c.action_allowed.ensures ∙ c.if-action_allowed.true)
 
 pub returns-then-not-good : goal.returns-then-not-good
 unfolding fault_of
 returns-then-not-good c =
-    let bad : bounded c.args.text.now c.args.r ≡ false = not-true _ c.if-not-good.true-raw in
+    let bad : bounded c.args.text.now c.args.r ≡ false = search rules in
     rw (eq-eqb _ 0 c.if-joined-ne0.false, bad, sym c.action_allowed.ensures ∙ c.if-action_allowed.false)
 
 pub returns-then-limit-written : goal.returns-then-limit-written
 unfolding fault_of
 returns-then-limit-written c =
     let a = c.args in
-    let good : bounded a.text.now a.r ≡ true = not-false _ c.if-not-good.false-raw in
+    let good : bounded a.text.now a.r ≡ true = search rules in
     let high : (layout_of First).limit < a.written = omega (arith, c.limit.ensures, c.if-limit-written.true) in
     rw (eq-eqb _ 0 c.if-joined-ne0.false, good, lt-ltb (layout_of First).limit a.written high)
 
@@ -49,21 +43,15 @@ pub returns-then-writing : goal.returns-then-writing
 unfolding fault_of
 returns-then-writing c =
     let a = c.args in
-    let good : bounded a.text.now a.r ≡ true = not-false _ c.if-not-good.false-raw in
+    let good : bounded a.text.now a.r ≡ true = search rules in
     let low : a.written ≤ (layout_of First).limit = omega (arith, c.limit.ensures, c.if-limit-written.false) in
     rw (eq-eqb _ 0 c.if-joined-ne0.false, good, le-ltb (layout_of First).limit a.written low, c.if-writing.true)
-
-pub slice_bounds-own-end : goal.slice_bounds-own-end
-slice_bounds-own-end c =
-    let good : bounded c.args.text.now c.args.r ≡ true = not-false _ c.if-not-good.false-raw in
-    let w = within c.args.text.now c.args.r good in
-    omega (arith, w.0, w.1)
 
 pub returns-then-number-ne0 : goal.returns-then-number-ne0
 unfolding fault_of
 returns-then-number-ne0 c =
     let a = c.args in
-    let good : bounded a.text.now a.r ≡ true = not-false _ c.if-not-good.false-raw in
+    let good : bounded a.text.now a.r ≡ true = search rules in
     let low : a.written ≤ (layout_of First).limit = omega (arith, c.limit.ensures, c.if-limit-written.false) in
     rw (
       eq-eqb _ 0 c.if-joined-ne0.false,
@@ -78,7 +66,7 @@ pub returns : goal.returns
 unfolding fault_of
 returns c =
     let a = c.args in
-    let good : bounded a.text.now a.r ≡ true = not-false _ c.if-not-good.false-raw in
+    let good : bounded a.text.now a.r ≡ true = search rules in
     let low : a.written ≤ (layout_of First).limit = omega (arith, c.limit.ensures, c.if-limit-written.false) in
     rw (
       eq-eqb _ 0 c.if-joined-ne0.false,
