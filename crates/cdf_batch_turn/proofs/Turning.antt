@@ -159,7 +159,8 @@ module _ (text s : List ℕ) (ran : Ran) (rank : ℕ) (r : UnitRequest) (zero : 
         refused 2 (e ∙ rw (sym (crowded_is l₁ text p r count top left first is) ∙ many)) (λ z. omega arith)
 
     module _ (j : join_number (placed p).units r.id 0 ≡ 0) (few : full ≡ false)
-        (size : ℕ) (sized : size ≡ prefix_of l₁ + length (part text r)) (after : Parts) (entered : after ≡ entered_by p count top (p.written + size) first) where
+        (size : ℕ) (sized : size ≡ prefix_of l₁ + length (part text r)) (after : Parts)
+        (entered : after ≡ entered_by p count top (p.written + size) first) where
       abbrev due : BuilderPlace
       due = grown l₁ (placed p) (asked text r)
 
