@@ -13,30 +13,22 @@ use Rattle.cdf_builder_spec.specs.Slots.{placed}
 use Rattle.cdf_builder_decide.proofs.Stages.{declined, unfit, no-group, group-not-joined, Grows, grows, group_grows, sum_fits}
 use Rattle.cdf_builder_decide.proofs.Few.{growable}
 use Rattle.cdf_builder_decide.proofs.decide_group.Goals as goal
+use Rattle.cdf_builder_decide.proofs.decide_group.Goals.{Else-not-is_fit, Else-left-ne0}
 
-fit : (c : goal.Else-not-is_fit) →
-    let a = c.args in
-    fits (layout_of a.edition) a.n (placed a.p) ≡ true
+fit : (c : Else-not-is_fit) → fits (layout_of c.args.edition) c.args.n (placed c.args.p) ≡ true
 fit c = sym c.is_fit.ensures ∙ not-false c.is_fit.result c.if-not-is_fit.false-raw
 
--- A lent slice has less than 2^63 bytes.
-small : (c : goal.Else-not-is_fit) → length c.args.bytes.now < 9223372036854775808
-small c = omega arith
-
--- No rule of its own is broken.
-asked : (c : goal.Else-left-ne0) →
-    let joined = c.before.before in
+-- No rule of its own is broken. A lent slice has less than 2^63 bytes.
+asked : (c : Else-left-ne0) →
     let a = c.args in
     let left = c.join_place-left.result in
+    fits (layout_of a.edition) a.n (placed a.p) ≡ true →
     Grows (layout_of a.edition) a.n a.p (group a.bytes.now) left.count left.top (length a.bytes.now) 0
-asked c =
-    let joined = c.before.before in
-    let past = joined.before in
-    let fitted = past.before.before in
-    let fits = fit fitted in
+asked c fits =
     let a = c.args in
+    let small : length a.bytes.now < 9223372036854775808 = omega arith in
     group_grows _ _ _ _ _ fits _ (sym c.join_place-left.ensures.number ∙ c.if-left-ne0.false) c.join_place-left.ensures.left _ c.group_id-id.ensures
-    c.if-id-eq0.false (sum_fits a.edition _ _ _ fits (omega (arith, small fitted)))
+    c.if-id-eq0.false (sum_fits a.edition _ _ _ fits (omega (arith, small)))
 
 pub returns-then-not-is_fit : goal.returns-then-not-is_fit
 returns-then-not-is_fit c =
@@ -46,21 +38,24 @@ returns-then-not-is_fit c =
 
 pub returns-then-id-eq0 : goal.returns-then-id-eq0
 returns-then-id-eq0 c =
-    let id = c.group_id-id in
-    record { is = sym (declined _ _ _ _ 14 (λ e. omega arith) (no-group _ _ _ _ (fit c.before.before) (sym id.ensures ∙ c.if-id-eq0.true))); kept = λ some. refl }
+    let fits = fit (goal.at.returns-then-id-eq0 c).Else-not-is_fit in
+    record { is = sym (declined _ _ _ _ 14 (λ e. omega arith) (no-group _ _ _ _ fits (sym c.group_id-id.ensures ∙ c.if-id-eq0.true))); kept = λ some. refl }
 
 pub returns-then-left-ne0 : goal.returns-then-left-ne0
 returns-then-left-ne0 c =
-    let joined = c.before.before in
-    let past = joined.before in
-    let id = c.group_id-id.ensures in record {
+    let fits = fit (goal.at.returns-then-left-ne0 c).Else-not-is_fit in
+    record {
       is = sym (declined _ _ _ _ _ c.if-left-ne0.true
-          (group-not-joined _ _ _ _ (fit past.before.before) _ id c.if-id-eq0.false _ c.join_place-left.ensures.number c.if-left-ne0.true));
+          (group-not-joined _ _ _ _ fits _ c.group_id-id.ensures c.if-id-eq0.false _ c.join_place-left.ensures.number c.if-left-ne0.true));
       kept = λ some. refl;
     }
 
 pub grow-requires : goal.grow-requires
-grow-requires c = growable _ _ _ _ _ _ _ _ (asked c)
+grow-requires c =
+    let at = goal.at.grow-requires c in
+    growable _ _ _ _ _ _ _ _ (asked at.Else-left-ne0 (fit at.Else-not-is_fit))
 
 pub returns : goal.returns
-returns c = record { is = c.grow.ensures.is ∙ grows _ _ _ _ _ _ _ _ (asked c.before); kept = c.grow.ensures.kept }
+returns c =
+    let at = goal.at.returns c in
+    record { is = c.grow.ensures.is ∙ grows _ _ _ _ _ _ _ _ (asked at.Else-left-ne0 (fit at.Else-not-is_fit)); kept = c.grow.ensures.kept }

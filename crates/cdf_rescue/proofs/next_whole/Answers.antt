@@ -12,6 +12,7 @@ use Rattle.cdf_unit_table.proofs.Parts.{rest}
 use Rattle.cdf_rescue.proofs.Units.{none-headed, none-marked}
 use Rattle.cdf_rescue.proofs.Spans.{Passed, passed_none, passed_on, passed-all}
 use Rattle.cdf_rescue.proofs.next_whole.Goals as goal
+use Rattle.cdf_rescue.proofs.next_whole.Goals.{then-s-at+then-is_headed+else-whole_at-ne0, then-s-at+else-is_headed, else-s-at}
 
 pub loop-at-init : goal.loop-at-init
 loop-at-init c = passed_none _ _ _ c.requires
@@ -54,7 +55,11 @@ loop-at-preserved c =
     let here = c.loop-at.at in
     let bytes = c.args.s.now in
     let on = passed_on _ _ _ _ c.loop-at.invariant c.loop-at-test.true in
-    ?
+    elim c.if-s-at.branch [
+      | then-s-at+then-is_headed+else-whole_at-ne0 w ↦ on (sym (simp rest at w.whole_at.ensures.is) ∙ w.if-whole_at-ne0.false)
+      | then-s-at+else-is_headed w ↦ on (none-headed _ _ (simp rest at (sym w.is_headed.ensures ∙ w.if-is_headed.false)))
+      | else-s-at w ↦ on (none-marked _ _ (λ z. w.if-s-at.false (front bytes here ∙ z)))
+    ]
 
 pub returns : goal.returns
 returns c =

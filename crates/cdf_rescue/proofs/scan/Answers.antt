@@ -55,7 +55,7 @@ loop-at-smaller c =
 
 pub loop-at-preserved : goal.loop-at-preserved
 loop-at-preserved c =
-    scan-on _ _ _ _ _ _ _ c.loop-at.invariant c.loop-at-test.true _ _ (few c.before) c.next_whole-start.ensures
+    scan-on _ _ _ _ _ _ _ c.loop-at.invariant c.loop-at-test.true _ _ (omega (arith, c.if-runs-eq64.false, c.loop-at.invariant.few)) c.next_whole-start.ensures
     c.last_whole-at-in-loop-at.ensures
 
 pub returns : goal.returns
