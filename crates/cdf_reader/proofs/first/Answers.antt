@@ -1,5 +1,4 @@
 -- The start in that edition.
-use borrow.Author.Rules.{rules}
 use Rattle.cdf_reader.proofs.first.Goals as goal
 
 pub returns : goal.returns

@@ -1,6 +1,5 @@
 -- The empty place and no unit.
 use mathlib.Core.Path.{refl}
-use borrow.Author.Rules.{rules}
 use Rattle.cdf_reader_spec.specs.Slots.{open_units, open_ranks}
 use Rattle.cdf_reader.proofs.Place.abnormal_end.Goals as goal
 

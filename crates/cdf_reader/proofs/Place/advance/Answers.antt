@@ -1,5 +1,4 @@
 -- The outcome at the place's cursor (proofs/Answering).
-use borrow.Author.Rules.{rules}
 use Rattle.cdf_unit_prefix.specs.Layout.{layout_of}
 use Rattle.cdf_reader_spec.specs.declared.Call.TheVariants.{Next}
 use Rattle.cdf_unit_data.specs.Standing.{row_bytes}

@@ -1,6 +1,5 @@
 -- The call by its name.
 use mathlib.Core.Path.{◌∙◌}
-use borrow.Author.Rules.{rules}
 use Rattle.cdf_reader_spec.proofs.Replying.{take-named}
 use Rattle.cdf_reader.proofs.Place.get_stream_place.Goals as goal
 

@@ -1,6 +1,5 @@
 -- The outcome at the place's cursor (proofs/Answering), of the call by its name.
 use mathlib.Core.Path.{refl, ◌∙◌}
-use borrow.Author.Rules.{rules}
 use Rattle.cdf_unit_prefix.specs.Layout.{layout_of}
 use Rattle.cdf_reader_spec.specs.Calls.{previous_of}
 use Rattle.cdf_reader_spec.proofs.Replying.{previous-named}
