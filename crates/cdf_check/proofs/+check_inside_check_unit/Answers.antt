@@ -6,7 +6,6 @@ use mathlib.Core.Bool.{false, true}
 use native.Mathlib.Omega.{arith}
 use lib.ListN.{drop, length-take, length-drop}
 use Rattle.cdf_unit_prefix.specs.Layout.{layout_of}
-use Rattle.cdf_unit_prefix.specs.Rules.{head_of}
 use Rattle.cdf_unit_data.proofs.Standing.{row_is}
 use Rattle.cdf_unit_judge.specs.Judge.{body_of}
 use Rattle.cdf_unit_table.proofs.Heights.{opens_lower}

@@ -1,5 +1,4 @@
 -- What the check of that edition promises.
-use borrow.Author.Rules.{rules}
 use Rattle.cdf_check.proofs.check.Goals as goal
 
 pub returns : goal.returns

@@ -2,7 +2,6 @@
 -- (proofs/Exact).
 use mathlib.Core.Path.{sym}
 use mathlib.Core.Bool.{true}
-use borrow.Author.Rules.{rules}
 use Rattle.cdf_check.proofs.Exact.{bytes_of, root_is, exact}
 use Rattle.cdf_check.proofs.check_as.Goals as goal
 

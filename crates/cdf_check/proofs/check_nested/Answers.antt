@@ -1,7 +1,6 @@
 -- `check_nested` meets its contract: the answers are the unit list's one level down (proofs/Exact).
 use mathlib.Core.Path.{sym}
 use mathlib.Core.Bool.{false}
-use borrow.Author.Rules.{rules}
 use Rattle.cdf_check.proofs.Exact.{nested_is}
 use Rattle.cdf_check.proofs.check_nested.Goals as goal
 

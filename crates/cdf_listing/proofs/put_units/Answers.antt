@@ -1,13 +1,10 @@
 -- The loop ends, since each unit comes further.
-use mathlib.Core.Path.{◌≡◌, refl}
+use mathlib.Core.Path.{refl}
 use borrow.Author.Rules.{rules}
-use Rattle.cdf_unit_prefix.specs.Layout.{layout_of}
 use Rattle.cdf_unit_data.specs.Standing.{name_row}
-use Rattle.cdf_unit_prefix.specs.declared.Edition.TheVariants.{First}
-use Rattle.cdf_reader_runs.proofs.Further.{ahead}
 use Rattle.cdf_listing_spec.specs.Text.{line_of}
 use Rattle.cdf_listing_lines.proofs.Putting.{put_length}
-use Rattle.cdf_listing.proofs.Lining.{Lined, lined-first, lined-over, lined-ordered, lined-near, lined-next, lined-less}
+use Rattle.cdf_listing.proofs.Lining.{lined-first, lined-over, lined-ordered, lined-near, lined-next, lined-less}
 use Rattle.cdf_listing.proofs.put_units.Goals as goal
 
 pub loop-a-init : goal.loop-a-init

@@ -1,10 +1,6 @@
 -- The bytes before `i` were put, one behind the other.
-use Prim.Native.Nat.{◌-◌, ◌≤◌}
 use native.Mathlib.Omega.{arith}
-use borrow.Author.Rules.{rules}
-use lib.ListN.{length, take}
 use lib.Seq.{take_all}
-use Rattle.cdf_listing_lines.specs.Put.{Put}
 use Rattle.cdf_listing_lines.proofs.Putting.{nothing_put, put_length, put-more, put-room}
 use Rattle.cdf_listing_lines.proofs.put_bytes.Goals as goal
 

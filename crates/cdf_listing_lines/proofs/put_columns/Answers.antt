@@ -1,5 +1,4 @@
 -- A call is named by what it puts: `start`, `depth`, `id`, `action`.
-use borrow.Author.Rules.{rules}
 use Rattle.cdf_listing_spec.specs.Text.{columns}
 use Rattle.cdf_listing_lines.proofs.Putting.{put_both, room_first, room_then}
 use Rattle.cdf_listing_lines.proofs.put_columns.Goals as goal

@@ -1,4 +1,3 @@
-use borrow.Author.Rules.{rules}
 use Rattle.cdf_listing_spec.specs.Text.{number}
 use Rattle.cdf_listing_lines.proofs.Putting.{put_both, room_first, room_then}
 use Rattle.cdf_listing_lines.proofs.put_number.Goals as goal
