@@ -42,6 +42,5 @@ shape_of-tail c = simp length-set
 
 pub returns : goal.returns
 returns c =
-    let start = c.before.before in
     let a = c.args in
     sets-eq (entry_of (told_of a.o (record { start = a.part.start; size = a.part.size }))) a.tail.now 0 c.requires

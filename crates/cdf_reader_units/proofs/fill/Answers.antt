@@ -1,7 +1,5 @@
 -- 11, 2, and else the run (proofs/Filling).
 use mathlib.Core.Path.{sym, ◌∙◌}
-use borrow.Author.Rules.{rules}
-use borrow.Author.Tests.{not-true, not-false}
 use Rattle.cdf_reader_units.proofs.Filling.{none_open, no-fit}
 use Rattle.cdf_reader_units.proofs.fill.Goals as goal
 
@@ -12,13 +10,12 @@ pub returns-then-not-is_fit : goal.returns-then-not-is_fit
 returns-then-not-is_fit c =
     rw c.stopped-then-not-is_fit.ensures
     (no-fit _ _ _ c.if-p-eq0.false
-    (rw (c.cursor-c.ensures, c.edition_of-edition.ensures) at
-    (sym c.is_fit.ensures ∙ not-true c.is_fit.result c.if-not-is_fit.true-raw)))
+    (rw (c.cursor-c.ensures, c.edition_of-edition.ensures) at (sym c.is_fit.ensures ∙ c.if-not-is_fit.true)))
 
 pub run-requires : goal.run-requires
 run-requires c =
     let told = c.edition_of-edition.ensures in
-    (told, rw (c.cursor-c.ensures, told) at (sym c.is_fit.ensures ∙ not-false c.is_fit.result c.if-not-is_fit.false-raw))
+    (told, rw (c.cursor-c.ensures, told) at (sym c.is_fit.ensures ∙ c.if-not-is_fit.false))
 
 pub returns : goal.returns
 returns c = c.run.ensures

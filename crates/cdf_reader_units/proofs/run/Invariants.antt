@@ -1,12 +1,8 @@
 -- The loop keeps `Running` (proofs/Filling), and the row is 01's.
 use Prim.Native.Nat.{◌-◌}
-use mathlib.Core.Path.{◌≡◌, refl}
-use native.Mathlib.Omega.{arith}
-use borrow.Author.Rules.{rules}
-use lib.ListN.{length}
-use Rattle.cdf_unit_prefix.specs.Layout.{edition_of}
+use mathlib.Core.Path.{◌≡◌}
 use Rattle.cdf_unit_data.specs.Standing.{name_row}
-use Rattle.cdf_reader_units.proofs.Filling.{Running, begun, long, fits_more, full, stops, on}
+use Rattle.cdf_reader_units.proofs.Filling.{Running}
 use Rattle.cdf_reader_units.proofs.run.Given as goal
 
 abbrev pub invariant-loop-count : goal.invariant-loop-count
