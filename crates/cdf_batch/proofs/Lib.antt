@@ -1,3 +1,1 @@
-pub mod Lending
-pub mod Held
 pub mod Passing

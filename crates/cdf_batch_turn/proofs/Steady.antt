@@ -14,7 +14,7 @@ use Rattle.cdf_unit_table.proofs.Bools.{past}
 use Rattle.cdf_unit_prefix.specs.Layout.{Layout}
 use Rattle.cdf_reader_spec.proofs.Counted.{length_held}
 use Rattle.cdf_builder_spec.specs.Place.{BuilderPlace, fits}
-use Rattle.cdf_builder_spec.specs.Requests.{unit, bytes_for, joining, ending, completed, join_number, advanced, grown}
+use Rattle.cdf_builder_spec.specs.Requests.{bytes_for, joining, ending, completed, join_number, advanced, grown}
 use Rattle.cdf_builder_spec.specs.Calls.{room, call_number}
 use Rattle.cdf_builder_spec.specs.Slots.{no_begun, units, placed}
 use Rattle.cdf_builder_spec.specs.declared.Begun.{Begun}
@@ -27,7 +27,7 @@ use Rattle.cdf_builder_decide.proofs.Few.{few}
 use Rattle.cdf_batch_spec.specs.declared.UnitRequest.{UnitRequest}
 use Rattle.cdf_batch_spec.specs.Asking.{bounded, asked, unbounded}
 use Rattle.cdf_batch_spec.proofs.Staged.{unbounded-is}
-use Rattle.cdf_batch_turn.specs.Passes.{or_else, part, judging, fault_of, crowded, pass_number}
+use Rattle.cdf_batch_turn.specs.Passes.{or_else, part, fault_of, crowded, pass_number}
 
 -- Of two numbers the first that is not 0: what is behind it does not matter.
 unless : (j x t : ℕ) → (or_else j x ≡ 0 → t ≡ 0) → or_else j (or_else x t) ≡ or_else j x

@@ -1,14 +1,12 @@
 // Reading the cases.
-use libc::STDIN_FILENO;
+use std::io::{self, Read};
 
 // What stands for a number or a size that could not be read: no other is as large.
 pub(crate) const BAD: usize = 18446744073709551615;
 
 // The next byte of the input, or 0 at its end.
-pub(crate) fn next_byte() -> u8 {
-    let mut one = [0u8; 1];
-    io::read_full(STDIN_FILENO, &mut one);
-    one[0]
+pub(crate) fn next_byte(input: &mut impl Read) -> io::Result<u8> {
+    input.bytes().next().unwrap_or(Ok(0))
 }
 
 // What a digit stands for, 16 for any other byte.
@@ -32,34 +30,38 @@ fn longer(n: usize, d: usize) -> usize {
 }
 
 // The decimal number that stands before this byte, of 19 digits at most.
-pub(crate) fn number(end: u8) -> usize {
+pub(crate) fn number(input: &mut impl Read, end: u8) -> io::Result<usize> {
     let mut n = 0;
-    let mut left: u64 = 20;
-    while left > 0 {
-        let c = next_byte();
+    for _ in 0..20 {
+        let c = next_byte(input)?;
         if c == end {
-            return n;
+            return Ok(n);
         }
         n = longer(n, digit(c));
         if n == BAD {
-            return BAD;
+            return Ok(BAD);
         }
-        left -= 1;
     }
-    BAD
+    Ok(BAD)
 }
 
 // The byte whose first digit is c.
-fn byte_at(c: u8) -> usize {
+fn byte_at(input: &mut impl Read, c: u8) -> io::Result<usize> {
     let high = digit(c);
-    let low = digit(next_byte());
+    let low = digit(next_byte(input)?);
     if high > 15 {
-        return BAD;
+        return Ok(BAD);
     }
     if low > 15 {
-        return BAD;
+        return Ok(BAD);
     }
-    high * 16 + low
+    Ok(high * 16 + low)
+}
+
+// The byte whose digits come next.
+fn two_digits(input: &mut impl Read) -> io::Result<usize> {
+    let c = next_byte(input)?;
+    byte_at(input, c)
 }
 
 // The functions named put_.. put bytes behind the first n of s, and return how many there are then.
@@ -76,50 +78,46 @@ fn put_byte(s: &mut [u8], n: usize, byte: usize) -> usize {
 
 fn put_run(s: &mut [u8], n: usize, count: usize, byte: usize) -> usize {
     let mut end = n;
-    let mut left = count;
-    while left > 0 {
+    for _ in 0..count {
         end = put_byte(s, end, byte);
-        left -= 1;
     }
     end
 }
 
 // The run whose `*` was read.
-fn put_counted(s: &mut [u8], n: usize) -> usize {
-    let high = byte_at(next_byte());
-    let low = byte_at(next_byte());
-    let byte = byte_at(next_byte());
+fn put_counted(input: &mut impl Read, s: &mut [u8], n: usize) -> io::Result<usize> {
+    let high = two_digits(input)?;
+    let low = two_digits(input)?;
+    let byte = two_digits(input)?;
     if high > 255 {
-        return BAD;
+        return Ok(BAD);
     }
     if low > 255 {
-        return BAD;
+        return Ok(BAD);
     }
-    put_run(s, n, high * 256 + low, byte)
+    Ok(put_run(s, n, high * 256 + low, byte))
 }
 
 // The byte whose first digit is c, or the run whose `*` it is.
-fn put_next(s: &mut [u8], n: usize, c: u8) -> usize {
+fn put_next(input: &mut impl Read, s: &mut [u8], n: usize, c: u8) -> io::Result<usize> {
     if c == b'*' {
-        return put_counted(s, n);
+        return put_counted(input, s, n);
     }
-    put_byte(s, n, byte_at(c))
+    Ok(put_byte(s, n, byte_at(input, c)?))
 }
 
 // Puts the bytes of the rest of a line into s, and returns how many there are.
-pub(crate) fn read_data(s: &mut [u8]) -> usize {
+pub(crate) fn read_data(input: &mut impl Read, s: &mut [u8]) -> io::Result<usize> {
     let mut n = 0;
-    let mut left = u64::MAX;
-    while left > 0 {
-        let c = next_byte();
+    for _ in 0..u64::MAX {
+        let c = next_byte(input)?;
         if c == b'\n' {
-            return n;
+            return Ok(n);
         }
-        n = put_next(s, n, c);
+        n = put_next(input, s, n, c)?;
         if n == BAD {
-            return BAD;
+            return Ok(BAD);
         }
-        left -= 1;
     }
-    BAD
+    Ok(BAD)
 }

@@ -17,8 +17,8 @@
 // buffer has before those at its end that are still EE, after E how many these are; and the bytes before them: all, or of many a
 // sum, the first 16 and the last 16. A line that cannot be read ends the program with the word error.
 //
-// A proved loop has to end, and nothing says that the input does. So each loop over the input counts its turns down, from a number
-// that no run uses up.
+// A proved loop has to end, and nothing says that the input does. So each loop over the input has a number of turns that no run uses
+// up.
 #![tactic(auto)]
 
 mod input;
@@ -28,7 +28,7 @@ use crate::input::{BAD, next_byte, number, read_data};
 use crate::output::{write_buffer, write_number, write_place};
 use cdf_builder::{Builder, Built, start};
 use cdf_builder_spec::Begun;
-use libc::STDOUT_FILENO;
+use std::io::{self, Read};
 
 // What a line did: whether it could be read, and the place then.
 #[derive(Clone, Copy)]
@@ -42,74 +42,96 @@ fn unread(place: Builder) -> Step {
 }
 
 // Writes what a call answered.
-fn answered(letter: u8, built: Built) -> Step {
-    let place = built.place;
-    write_number(letter, built.number);
-    Step { good: true, place }
+fn answered(rt: &impl Print, letter: char, built: Built) -> io::Result<Step> {
+    write_number(rt, letter, built.number)?;
+    Ok(Step {
+        good: true,
+        place: built.place,
+    })
 }
 
-fn run_start(buffer: &mut [u8], place: Builder) -> Step {
-    let id = number(b'\n');
+fn run_start(
+    rt: &impl Print,
+    input: &mut impl Read,
+    buffer: &mut [u8],
+    place: Builder,
+) -> io::Result<Step> {
+    let id = number(input, b'\n')?;
     if id == BAD {
-        return unread(place);
+        return Ok(unread(place));
     }
     let built = start(buffer, id);
-    answered(b'S', built)
+    answered(rt, 'S', built)
 }
 
-fn run_next(buffer: &mut [u8], place: Builder) -> Step {
-    let id = number(b' ');
-    let action = number(b' ');
+fn run_next(
+    rt: &impl Print,
+    input: &mut impl Read,
+    buffer: &mut [u8],
+    place: Builder,
+) -> io::Result<Step> {
+    let id = number(input, b' ')?;
+    let action = number(input, b' ')?;
     let mut data = [0u8; 65536];
-    let n = read_data(&mut data);
+    let n = read_data(input, &mut data)?;
     if id == BAD {
-        return unread(place);
+        return Ok(unread(place));
     }
     if action == BAD {
-        return unread(place);
+        return Ok(unread(place));
     }
     if n > 65536 {
-        return unread(place);
+        return Ok(unread(place));
     }
     let built = place.next(buffer, id, action, &data[..n]);
-    answered(b'N', built)
+    answered(rt, 'N', built)
 }
 
-fn run_add_stream(buffer: &mut [u8], place: Builder) -> Step {
+fn run_add_stream(
+    rt: &impl Print,
+    input: &mut impl Read,
+    buffer: &mut [u8],
+    place: Builder,
+) -> io::Result<Step> {
     let mut data = [0u8; 65536];
-    let n = read_data(&mut data);
+    let n = read_data(input, &mut data)?;
     if n > 65536 {
-        return unread(place);
+        return Ok(unread(place));
     }
     let built = place.add_stream(buffer, &data[..n]);
-    answered(b'A', built)
+    answered(rt, 'A', built)
 }
 
-fn run_finish(buffer: &[u8], place: Builder) -> Step {
-    let good = next_byte() == b'\n';
+fn run_finish(
+    rt: &impl Print,
+    input: &mut impl Read,
+    buffer: &[u8],
+    place: Builder,
+) -> io::Result<Step> {
+    let good = next_byte(input)? == b'\n';
     let finished = place.finish(buffer);
-    write_number(b'F', finished.number);
-    write_number(b'L', finished.length);
-    Step { good, place }
+    write_number(rt, 'F', finished.number)?;
+    write_number(rt, 'L', finished.length)?;
+    Ok(Step { good, place })
 }
 
-fn read_open() -> Begun {
-    let state = number(b' ');
-    let start = number(b' ');
-    Begun { state, start }
+fn read_open(input: &mut impl Read) -> io::Result<Begun> {
+    let state = number(input, b' ')?;
+    let start = number(input, b' ')?;
+    Ok(Begun { state, start })
 }
 
 fn is_read(o: Begun) -> bool {
     (o.state != BAD) & (o.start != BAD)
 }
 
-fn read_place() -> Step {
-    let top = read_open();
-    let o1 = read_open();
-    let o2 = read_open();
-    let o3 = read_open();
-    let count = number(b' ');
-    let written = number(b'\n');
+fn read_place(input: &mut impl Read) -> io::Result<Step> {
+    let top = read_open(input)?;
+    let o1 = read_open(input)?;
+    let o2 = read_open(input)?;
+    let o3 = read_open(input)?;
+    let count = number(input, b' ')?;
+    let written = number(input, b'\n')?;
     let units = is_read(top) & is_read(o1) & is_read(o2) & is_read(o3);
     let good = units & (count != BAD) & (written != BAD);
     let place = Builder {
@@ -120,58 +142,65 @@ fn read_place() -> Step {
         o2,
         o3,
     };
-    Step { good, place }
+    Ok(Step { good, place })
 }
 
 // The line that begins with this letter.
-fn run_line(letter: u8, buffer: &mut [u8], place: Builder) -> Step {
+fn run_line(
+    rt: &impl Print,
+    input: &mut impl Read,
+    letter: u8,
+    buffer: &mut [u8],
+    place: Builder,
+) -> io::Result<Step> {
     match letter {
-        b'S' => run_start(buffer, place),
-        b'N' => run_next(buffer, place),
-        b'A' => run_add_stream(buffer, place),
-        b'F' => run_finish(buffer, place),
-        b'P' => read_place(),
-        _ => unread(place),
+        b'S' => run_start(rt, input, buffer, place),
+        b'N' => run_next(rt, input, buffer, place),
+        b'A' => run_add_stream(rt, input, buffer, place),
+        b'F' => run_finish(rt, input, buffer, place),
+        b'P' => read_place(input),
+        _ => Ok(unread(place)),
     }
 }
 
 // Runs the lines up to the dot, and answers whether all could be read.
-fn run_lines(buffer: &mut [u8], first: Builder) -> bool {
+fn run_lines(
+    rt: &impl Print,
+    input: &mut impl Read,
+    buffer: &mut [u8],
+    first: Builder,
+) -> io::Result<bool> {
     let mut place = first;
-    let mut left = u64::MAX;
-    while left > 0 {
-        let c = next_byte();
+    for _ in 0..u64::MAX {
+        let c = next_byte(input)?;
         if c == b'.' {
-            write_place(place);
-            write_buffer(buffer);
-            return next_byte() == b'\n';
+            write_place(rt, place)?;
+            write_buffer(rt, buffer)?;
+            return Ok(next_byte(input)? == b'\n');
         }
-        let step = run_line(c, buffer, place);
+        let step = run_line(rt, input, c, buffer, place)?;
         if !step.good {
-            return false;
+            return Ok(false);
         }
         place = step.place;
-        left -= 1;
     }
-    false
+    Ok(false)
 }
 
 // Writes a label that begins with c, and answers whether a space ends it.
-fn copy_label(c: u8) -> bool {
+fn copy_label(rt: &impl Print, input: &mut impl Read, c: u8) -> io::Result<bool> {
     let mut one = c;
-    let mut left = u64::MAX;
-    while left > 0 {
+    for _ in 0..u64::MAX {
         if one == b' ' {
-            return true;
+            return Ok(true);
         }
         if one == 0 {
-            return false;
+            return Ok(false);
         }
-        io::write_all(STDOUT_FILENO, &[one]);
-        one = next_byte();
-        left -= 1;
+        rt.write_all(&[one])?;
+        one = next_byte(input)?;
     }
-    false
+    Ok(false)
 }
 
 fn no_place() -> Builder {
@@ -187,29 +216,29 @@ fn no_place() -> Builder {
 }
 
 // Runs the case whose label begins with c, and answers whether it could be read.
-fn run_case(c: u8) -> bool {
-    if !copy_label(c) {
-        return false;
+fn run_case(rt: &impl Print, input: &mut impl Read, c: u8) -> io::Result<bool> {
+    if !copy_label(rt, input, c)? {
+        return Ok(false);
     }
-    let size = number(b'\n');
+    let size = number(input, b'\n')?;
     if size > 65536 {
-        return false;
+        return Ok(false);
     }
     let mut space = [0xEEu8; 65536];
-    run_lines(&mut space[..size], no_place())
+    run_lines(rt, input, &mut space[..size], no_place())
 }
 
-fn main() {
-    let mut left = u64::MAX;
-    while left > 0 {
-        let c = next_byte();
+fn main(rt: HostRuntime) -> io::Result<()> {
+    let mut input = rt.reader();
+    for _ in 0..u64::MAX {
+        let c = next_byte(&mut input)?;
         if c == 0 {
-            return;
+            break;
         }
-        if !run_case(c) {
-            io::write_all(STDOUT_FILENO, b" error\n");
-            return;
+        if !run_case(&rt, &mut input, c)? {
+            println!(rt; " error")?;
+            break;
         }
-        left -= 1;
     }
+    Ok(())
 }

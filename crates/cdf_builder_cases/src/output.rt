@@ -1,44 +1,40 @@
 // Writing the answers.
-ghost use Rattle.std.specs.Prelude.{◌<◌};
-ghost use Rattle.io.specs.Counts.{IsPrefixLen};
+ghost use Rattle.std.specs.Prelude.{◌≡◌, ◌<◌, ◌≤◌, length, take};
 
 use cdf_builder::Builder;
 use cdf_builder_spec::Begun;
-use libc::STDOUT_FILENO;
+use std::io;
 
-pub(crate) fn write_number(letter: u8, n: usize) {
-    io::write_all(STDOUT_FILENO, &[b' ', letter]);
-    io::print_decimal(STDOUT_FILENO, n as u64);
+pub(crate) fn write_number(rt: &impl Print, letter: char, n: usize) -> io::Result<()> {
+    print!(rt; " {letter}{n}")
 }
 
-fn write_open(o: Begun) {
-    write_number(b'U', o.state);
-    write_number(b'@', o.start);
+fn write_open(rt: &impl Print, o: Begun) -> io::Result<()> {
+    write_number(rt, 'U', o.state)?;
+    write_number(rt, '@', o.start)
 }
 
-pub(crate) fn write_place(p: Builder) {
-    let top = p.top;
-    let o1 = p.o1;
-    let o2 = p.o2;
-    let o3 = p.o3;
-    write_number(b'P', p.written);
+pub(crate) fn write_place(rt: &impl Print, p: Builder) -> io::Result<()> {
+    write_number(rt, 'P', p.written)?;
     if p.count > 1 {
-        write_open(o1);
+        write_open(rt, p.o1)?;
     }
     if p.count > 2 {
-        write_open(o2);
+        write_open(rt, p.o2)?;
     }
     if p.count > 3 {
-        write_open(o3);
+        write_open(rt, p.o3)?;
     }
     if p.count > 0 {
-        write_open(top);
+        write_open(rt, p.top)?;
     }
+    Ok(())
 }
 
 // How many bytes there are before those at the end that are still EE.
 fn changed(s: &[u8]) -> usize
-    ensures { IsPrefixLen result s.now }
+    ensures within { result ≤ length s.now }
+    ensures front { result ≡ length (take result s.now) }
 {
     let mut n = s.len();
     while n > 0 {
@@ -50,16 +46,15 @@ fn changed(s: &[u8]) -> usize
     0
 }
 
-fn write_byte(byte: u8) {
-    io::print_hex(STDOUT_FILENO, byte as u64, 2);
+fn write_byte(rt: &impl Print, byte: u8) -> io::Result<()> {
+    print!(rt; "{byte:02x}")
 }
 
-fn write_hex(s: &[u8]) {
-    let mut i = 0;
-    while i < s.len() {
-        write_byte(s[i]);
-        i += 1;
+fn write_hex(rt: &impl Print, s: &[u8]) -> io::Result<()> {
+    for &byte in s {
+        write_byte(rt, byte)?;
     }
+    Ok(())
 }
 
 // A sum with a byte more: the digits of a number in base 257, modulo a prime.
@@ -72,33 +67,29 @@ fn summed(h: u64, byte: u8) -> u64
 
 fn sum(s: &[u8]) -> u64 {
     let mut h: u64 = 0;
-    let mut i = 0;
-    while i < s.len() {
-        h = summed(h, s[i]);
-        i += 1;
+    for &byte in s {
+        h = summed(h, byte);
     }
     h
 }
 
 // All of the bytes, or of many a sum, the first 16 and the last 16.
-fn write_bytes(s: &[u8]) {
+fn write_bytes(rt: &impl Print, s: &[u8]) -> io::Result<()> {
     if s.len() <= 1024 {
-        write_hex(s);
-        return;
+        return write_hex(rt, s);
     }
     let n = s.len();
-    io::print_decimal(STDOUT_FILENO, sum(s));
-    io::write_all(STDOUT_FILENO, b" ");
-    write_hex(&s[0..16]);
-    io::write_all(STDOUT_FILENO, b" ");
-    write_hex(&s[n - 16..]);
+    print!(rt; "{} ", sum(s))?;
+    write_hex(rt, &s[0..16])?;
+    print!(rt; " ")?;
+    write_hex(rt, &s[n - 16..])
 }
 
-pub(crate) fn write_buffer(s: &[u8]) {
+pub(crate) fn write_buffer(rt: &impl Print, s: &[u8]) -> io::Result<()> {
     let n = changed(s);
-    write_number(b'W', n);
-    write_number(b'E', s.len() - n);
-    io::write_all(STDOUT_FILENO, b" ");
-    write_bytes(&s[..n]);
-    io::write_all(STDOUT_FILENO, b"\n");
+    write_number(rt, 'W', n)?;
+    write_number(rt, 'E', s.len() - n)?;
+    print!(rt; " ")?;
+    write_bytes(rt, &s[..n])?;
+    println!(rt)
 }

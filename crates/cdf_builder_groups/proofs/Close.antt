@@ -40,6 +40,7 @@ group_state state id kind =
     go : (c n : ℕ) → c ≡ id → T (not (eqb c er_group || eqb c file_group) || eqb n stream_group) → Among id (er_group ∷ file_group ∷ []) → n ≡ stream_group
     go c n e t (inl k) = eqb-true n stream_group (is_true (eqb n stream_group) (rw (e, k) at t))
     go c n e t (inr (inl k)) = eqb-true n stream_group (is_true (eqb n stream_group) (rw (e, k) at t))
+    go c n e t (inr (inr x)) = elim x [ ]
 
 -- in which it admits a call alone.
 only_call : (id : ℕ) → (id ≡ call → ⊥) → admit stream_group id ≡ 0
@@ -70,6 +71,7 @@ no_call l (group g) w z = go (group_kind (id_at l g) w.1) z
     go : Among (id_at l g) (er_group ∷ file_group ∷ []) → id_at l g ≡ call → ⊥
     go (inl k) z = omega (arith, k, z)
     go (inr (inl k)) z = omega (arith, k, z)
+    go (inr (inr x)) z = elim x [ ]
 
 seven : (l : Layout) (os : List Begun) (r : Request) (next : ℕ) → NoCall l r → joining (id_of l r) os ≡ [] → refused l os r next ≡ 7
 unfolding refused join_number id_of

@@ -65,12 +65,14 @@ units_lent l g b = items_lent l g b (listing l g).units
 -- A group has no action and no own data.
 only_none : (action : ℕ) → Among action (0 ∷ []) → action ≡ 0
 only_none action (inl e) = e
+only_none action (inr x) = elim x [ ]
 
 group_blank : (id action : ℕ) (text : List ℕ) (inner : Forest) → Among id (er_group ∷ file_group ∷ []) → Follows id action text inner →
     (action ≡ 0) × (text ≡ [])
 unfolding production_of
 group_blank id action text inner (inl k) f = (only_none action (rw k at f.acts), rw k at f.says)
 group_blank id action text inner (inr (inl k)) f = (only_none action (rw k at f.acts), rw k at f.says)
+group_blank id action text inner (inr (inr x)) f = elim x [ ]
 
 says_root : (id : ℕ) (inner : Forest) → says (tree id 0 [] inner none) ≡ root_item id ∷ says inner
 unfolding says

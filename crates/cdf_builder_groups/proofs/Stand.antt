@@ -77,7 +77,7 @@ module _ (l : Layout) where
       rw (
         list_tree (base + at) id action text inner rest,
         list_tree at id action text inner rest,
-        map-append,
+        map-append (moved_by base),
         moved-first base at id action text inner,
         body,
         end,

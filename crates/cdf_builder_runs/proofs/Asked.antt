@@ -66,3 +66,4 @@ module _ (l : Layout) (os : List Begun) where
       is : Among id (er_group ∷ file_group ∷ []) → is_group id ≡ true
       is (inl e) = rw e
       is (inr (inl e)) = rw e
+      is (inr (inr x)) = elim x [ ]

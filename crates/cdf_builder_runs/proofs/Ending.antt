@@ -28,7 +28,7 @@ pub tells_units : (l : Layout) (f : Forest) → Tells l f (map unit (says f))
 unfolding says
 tells_units l none = refl
 tells_units l (tree id action text inner rest) =
-    inl (map unit (says inner), map unit (says rest), rw map-append, tells_units l inner, tells_units l rest)
+    inl (map unit (says inner), map unit (says rest), rw (map-append unit), tells_units l inner, tells_units l rest)
 
 -- No unit is open: there is one tree.
 pub record Ended (l : Layout) (rs : List Request) (front : List ℕ) : Type 0 where

@@ -28,7 +28,7 @@ plain e us =
           (t, requested l more, w.1.1, requested_says e t (map unit us ++ more) w.1.2 ∙ rw (requested_append, requested_units)),
       λ w.
           let t = w.0 in
-          (map unit w.1, (t, w.2, rw (w.3, map-append) at (tells_units l t))),
+          (map unit w.1, (t, w.2, rw (w.3, map-append unit) at (tells_units l t))),
     )
 
 module _ (l : Layout) where

@@ -5,20 +5,18 @@
 // stands for CCCC bytes, each like the one DDDD before it. `model/run inputs` writes the
 // input, and `model/run answers` the output that is expected.
 //
-// A proved loop has to end, and nothing says that the input does. So each loop counts its turns
-// down, from a number that no run uses up.
+// A proved loop has to end, and nothing says that the input does. So each loop has a number of
+// turns that no run uses up.
 #![tactic(auto)]
 
-ghost use Rattle.std.specs.Prelude.{◌≤◌, ◌<◌, length};
+ghost use Rattle.std.specs.Prelude.{◌≤◌, ◌<◌, length, IfOk};
 
 use cdf_check::Checked;
-use libc::{STDIN_FILENO, STDOUT_FILENO};
+use std::io::{self, Read};
 
 // The next byte of the input, or 0 at its end.
-fn next_byte() -> u8 {
-    let mut one = [0u8; 1];
-    io::read_full(STDIN_FILENO, &mut one);
-    one[0]
+fn next_byte(input: &mut impl Read) -> io::Result<u8> {
+    input.bytes().next().unwrap_or(Ok(0))
 }
 
 // What a hexadecimal digit stands for.
@@ -33,10 +31,10 @@ fn digit(c: u8) -> usize
 }
 
 // The number that the next four digits write.
-fn four_digits() -> usize {
-    let high = digit(next_byte()) * 16 + digit(next_byte());
-    let low = digit(next_byte()) * 16 + digit(next_byte());
-    high * 256 + low
+fn four_digits(input: &mut impl Read) -> io::Result<usize> {
+    let high = digit(next_byte(input)?) * 16 + digit(next_byte(input)?);
+    let low = digit(next_byte(input)?) * 16 + digit(next_byte(input)?);
+    Ok(high * 256 + low)
 }
 
 // The functions named put_.. add bytes to the first n of s, as far as there is room, and return how
@@ -62,95 +60,88 @@ fn put_repeat(s: &mut [u8], n: usize, back: usize, count: usize) -> usize
     ensures { result ≤ length s.old }
 {
     let mut end = n;
-    let mut left = count;
-    while left > 0 {
+    for _ in 0..count {
         end = put_like(s, end, back);
-        left -= 1;
     }
     end
 }
 
 // Adds the byte whose first digit is c, or the bytes of a repeat whose `*` it is.
-fn put_next(s: &mut [u8], n: usize, c: u8) -> usize
+fn put_next(input: &mut impl Read, s: &mut [u8], n: usize, c: u8) -> io::Result<usize>
     requires { n ≤ length s.old }
-    ensures { result ≤ length s.old }
+    ensures { IfOk result (λ end. end ≤ length s.old) }
 {
     if c == b'*' {
-        let back = four_digits();
-        return put_repeat(s, n, back, four_digits());
+        let back = four_digits(input)?;
+        return Ok(put_repeat(s, n, back, four_digits(input)?));
     }
-    let byte = digit(c) * 16 + digit(next_byte());
+    let byte = digit(c) * 16 + digit(next_byte(input)?);
     if n == s.len() {
-        return n;
+        return Ok(n);
     }
     s[n] = byte as u8;
-    n + 1
+    Ok(n + 1)
 }
 
 // Puts the bytes of a line into s, and returns how many there are. A stream of 65,536 bytes and the
 // line's end take 65,537 turns.
-fn read_stream(s: &mut [u8]) -> usize
-    ensures { result ≤ length s.old }
+fn read_stream(input: &mut impl Read, s: &mut [u8]) -> io::Result<usize>
+    ensures { IfOk result (λ n. n ≤ length s.old) }
 {
     let mut n = 0;
-    let mut left: u64 = 65537;
-    while left > 0 {
-        let c = next_byte();
+    for _ in 0..65537 {
+        let c = next_byte(input)?;
         if c == b'\n' {
-            return n;
+            return Ok(n);
         }
-        n = put_next(s, n, c);
-        left -= 1;
+        n = put_next(input, s, n, c)?;
     }
-    n
+    Ok(n)
 }
 
 // Writes a line's label, and answers whether there is one.
-fn copy_label() -> bool {
-    let mut left = u64::MAX;
-    while left > 0 {
-        let c = next_byte();
+fn copy_label(rt: &impl Print, input: &mut impl Read) -> io::Result<bool> {
+    for _ in 0..u64::MAX {
+        let c = next_byte(input)?;
         if c == 0 {
-            return false;
+            return Ok(false);
         }
         if c == b':' {
-            return true;
+            return Ok(true);
         }
-        io::write_all(STDOUT_FILENO, &[c]);
-        left -= 1;
+        rt.write_all(&[c])?;
     }
-    false
+    Ok(false)
 }
 
-fn write_answer(number: usize, value: usize) {
-    io::write_all(STDOUT_FILENO, b" ");
-    io::print_decimal(STDOUT_FILENO, number as u64);
-    io::write_all(STDOUT_FILENO, b" ");
-    io::print_decimal(STDOUT_FILENO, value as u64);
-    io::write_all(STDOUT_FILENO, b"\n");
+fn write_answer(rt: &impl Print, number: usize, value: usize) -> io::Result<()> {
+    println!(rt; " {number} {value}")
 }
 
-fn check_stream(s: &[u8]) {
+fn check_stream(rt: &impl Print, s: &[u8]) -> io::Result<()> {
     match cdf_check::check(s) {
-        Checked::Accepted(units) => write_answer(0, units),
-        Checked::Refused { number, offset } => write_answer(number, offset),
+        Checked::Accepted(units) => write_answer(rt, 0, units),
+        Checked::Refused { number, offset } => write_answer(rt, number, offset),
     }
 }
 
 // Checks the stream of one line, and answers whether there was one.
-fn check_line() -> bool {
-    if !copy_label() {
-        return false;
+fn check_line(rt: &impl Print, input: &mut impl Read) -> io::Result<bool> {
+    if !copy_label(rt, input)? {
+        return Ok(false);
     }
     let mut s = [0u8; 65536];
-    let n = read_stream(&mut s);
-    check_stream(&s[..n]);
-    true
+    let n = read_stream(input, &mut s)?;
+    check_stream(rt, &s[..n])?;
+    Ok(true)
 }
 
-fn main() {
-    let mut left = u64::MAX;
-    while left > 0 && check_line() {
-        left -= 1;
+fn main(rt: HostRuntime) -> io::Result<()> {
+    let mut input = rt.reader();
+    for _ in 0..u64::MAX {
+        if !check_line(&rt, &mut input)? {
+            break;
+        }
     }
+    Ok(())
 }

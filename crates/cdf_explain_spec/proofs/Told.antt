@@ -21,6 +21,7 @@ use Rattle.cdf_unit_list.specs.declared.Unit.{Unit}
 use Rattle.cdf_unit_list.specs.declared.Open.{Open}
 use Rattle.cdf_unit_list.proofs.Proved.{proved}
 use Rattle.cdf_unit_list.proofs.StatesListed.{open_of}
+use Rattle.cdf_unit_list.proofs.Nested.{Nested, reaching}
 use Rattle.cdf_reader_spec.specs.Place.{ReaderPlace, every, is_state}
 use Rattle.cdf_reader_spec.specs.Closing.{unclosed}
 use Rattle.cdf_reader_spec.proofs.Fitting.{States, fitting}
@@ -55,6 +56,10 @@ module _ (l : Layout) (s : List ℕ) where
       let f = final l s in
       rw (why-after l s f.before f.units) (of_end P f.before (listing l s).end none (some f.before f.place f.taken f.stands))
 
+  -- The open units behind a unit are nested at its end, where the place stands.
+  at_end : (u : Unit) (us : List Unit) (p : ReaderPlace) → Behind l s u us p → Nested (after u) (after u) (reaching (after u) (u ∷ us))
+  at_end u us p b = rw b.position at b.follow.nested
+
   pub inside : Inwards (why_of l s).units
   unfolding open_around
   inside = told Inwards (record {}) go
@@ -62,7 +67,7 @@ module _ (l : Layout) (s : List ℕ) where
       go : (before : List Unit) (p : ReaderPlace) (x : Step) → Stands l s before p x → Inwards (reverse (open_around before))
       go [] p x h = record {}
       go (u ∷ us) p x h =
-          let nested = rw h.0.position at h.0.follow.nested in
+          let nested = at_end u us p h.0 in
           let w = around_rest u us nested in
           turned (open_around (u ∷ us)) (outer_part w.0 (open_around (u ∷ us)) (after u) (after u) (rw w.1 at nested))
 

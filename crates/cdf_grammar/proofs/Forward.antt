@@ -1,5 +1,5 @@
 -- Stepping over the encoding of trees that fit lists their units in order.
-use mathlib.Core.Path.{◌≡◌, refl, ap, ◌∙◌}
+use mathlib.Core.Path.{◌≡◌, refl, ap, ap₂, ◌∙◌}
 use mathlib.Core.Bool.{Bool, true, false}
 use mathlib.Core.List.{List, [], ◌∷◌, ◌++◌, append_assoc, append-nil, reverse_aux, reverse_aux-append, reverse_aux-reverse_aux-nil}
 use Prim.Native.Nat.{ℕ, suc, ◌+◌, ◌-◌, ◌^◌, ◌≤◌, ◌<◌}
@@ -174,7 +174,9 @@ module _ (l : Layout) (S : List ℕ) where
 pub length_list : (l : Layout) (pos : ℕ) (t : Forest) → length (list l pos t) ≡ units t
 unfolding units list
 length_list l pos none = refl
-length_list l pos (tree id action text inner rest) = rw (length-append, length_list l _ inner, length_list l _ rest)
+length_list l pos (tree id action text inner rest) =
+    ap suc (rw length-append (ap₂ (λ a b. a + b) (length_list l (pos + prefix_of l + length text) inner)
+    (length_list l (pos + prefix_of l + (length text + length (encode l inner))) rest)))
 
 -- So the fuel, one more than there are bytes, is enough.
 few_units : (l : Layout) (t : Forest) → units t ≤ length (encode l t)

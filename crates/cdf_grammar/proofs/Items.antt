@@ -119,7 +119,7 @@ listed l s (tree id action text inner rest) at back (p, within, after) e =
     let behind = listed l s rest (body + (length text + length (encode l inner))) back after (rw end at next) in
     ap₂ (λ (x : List ℕ) (xs : List Item). item id action x ∷ xs)
     (own_data p s body (encode l inner ++ (encode l rest ++ back)) own)
-    (rw (map-append, inside, behind))
+    (rw (map-append (item_of l s), inside, behind))
 
 -- The listed units of a tree's bytes say what the tree's units say.
 pub items : (l : Layout) (s : List ℕ) (t : Forest) → Fits l t → encode l t ≡ s → map (item_of l s) (list l 0 t) ≡ says t

@@ -36,7 +36,7 @@ stand_parts : (us : List Unit) (v : Unit) (vs ws : List Unit) →
     map stand (ranked us (v ∷ (vs ++ ws)))
     ≡ stand (standing us v) ∷ (map stand (ranked (v ∷ us) vs) ++ map stand (ranked (reverse_aux vs (v ∷ us)) ws))
 unfolding ranked
-stand_parts us v vs ws = ap (λ x. stand (standing us v) ∷ x) (rw (ranked_append (v ∷ us) vs ws, map-append))
+stand_parts us v vs ws = ap (λ x. stand (standing us v) ∷ x) (rw (ranked_append (v ∷ us) vs ws, map-append stand))
 
 -- In `us` these units are open from the position to the innermost one's end, and so many stand directly in each.
 record Around (us : List Unit) (o : Unit) (ws : List Unit) (pos : ℕ) (ks : List ℕ) (r : ℕ) : Type 0 where

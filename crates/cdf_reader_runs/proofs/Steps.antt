@@ -59,4 +59,5 @@ module _ (l : Layout) (s : List ℕ) where
   run-steps run zero less before = absurd (omega arith)
   run-steps ends (suc f) less before = refl
   run-steps breaks (suc f) less before = refl
-  run-steps (hands {u = u} run) (suc f) less before = run-steps run f (omega arith) (u ∷ before)
+  run-steps {e = e} (hands {u = u} {os = os} {pos = pos} {us = us} run) (suc f) less before =
+      run-steps {x = step l s os pos} run f (omega arith) (u ∷ before)

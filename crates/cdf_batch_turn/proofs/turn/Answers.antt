@@ -1,23 +1,38 @@
 -- By stages (proofs/Turning): after a refusal, an unknown id, the number that is told, too many units, and a request that is
--- taken. `Else2` is past the id, `Else3` past the number, `Else4` past the slots.
-use Prim.Native.Nat.{◌≤◌, ◌<◌}
+-- taken.
+use Prim.Native.Nat.{ℕ, ◌≤◌}
 use mathlib.Core.Path.{◌≡◌, sym, ◌∙◌}
-use mathlib.Core.Bool.{true, false, cond}
+use mathlib.Core.Bool.{Bool, true, false}
+use mathlib.Core.List.{List}
 use native.Mathlib.Omega.{arith}
 use borrow.Author.Rules.{rules}
-use borrow.Author.Tests.{not-true, not-false, leb-true}
+use borrow.Author.Tests.{leb-true}
 use lib.Dec.{leb}
 use lib.ListN.{length}
-use Rattle.cdf_unit_table.specs.Ids.{known}
 use Rattle.cdf_unit_table.proofs.Bools.{both}
 use Rattle.cdf_unit_prefix.specs.Layout.{layout_of}
 use Rattle.cdf_unit_prefix.specs.declared.Edition.TheVariants.{First}
 use Rattle.cdf_builder_spec.specs.Slots.{placed}
-use Rattle.cdf_batch_spec.specs.Asking.{bounded}
-use Rattle.cdf_batch_turn.specs.Passes.{going, fault_of, crowded, pass_number}
+use Rattle.cdf_batch_spec.specs.declared.UnitRequest.{UnitRequest}
+use Rattle.cdf_batch_turn.specs.Passes.{or_else, going, fault_of}
 use Rattle.cdf_batch_turn.proofs.Steady.{neither, faultless, number-unknown, number-some, number-none}
 use Rattle.cdf_batch_turn.proofs.Turning.{turn-still, refused, crowding, built}
 use Rattle.cdf_batch_turn.proofs.turn.Goals as goal
+
+-- Past the number: it joins, its bounds are good and what is written is within the limit, and only the slots may be wanting.
+record Entered (j written : ℕ) (text : List ℕ) (r : UnitRequest) : Type 0 where
+  joins : j ≡ 0
+  ordered : r.begin ≤ r.end
+  inside : r.end ≤ length text
+  low : written ≤ (layout_of First).limit
+
+entered : (writing : Bool) (n written : ℕ) (text : List ℕ) (r : UnitRequest) (j m : ℕ) →
+    m ≡ or_else j (fault_of (layout_of First) writing n written text r) → m ≡ 0 → Entered j written text r
+entered writing n written text r j m e z =
+    let zeros = neither j (fault_of (layout_of First) writing n written text r) (sym e ∙ z) in
+    let good = faultless (layout_of First) writing n written text r zeros.1 in
+    let w = both (leb r.begin r.end) (leb r.end (length text)) good.0 in
+    record { joins = zeros.0; ordered = leb-true r.begin r.end w.0; inside = leb-true r.end (length text) w.1; low = good.1 }
 
 pub returns-then-ran-ne0 : goal.returns-then-ran-ne0
 returns-then-ran-ne0 c =
@@ -27,104 +42,75 @@ returns-then-ran-ne0 c =
 pub returns-then-not-is_known : goal.returns-then-not-is_known
 returns-then-not-is_known c =
     let a = c.args in
-    let none = sym c.is_known.ensures ∙ not-true c.is_known.result c.if-not-is_known.true-raw in
+    let out : c.is_known.result ≡ false = search rules in
     refused a.text.now a.buffer.now a.ran a.rank a.r c.if-ran-ne0.false _ c.parts_from-p.ensures 6
-    (number-unknown (layout_of First) a.ran.writing (length a.buffer.now) a.text.now (placed c.parts_from-p.result) a.r none)
+    (number-unknown (layout_of First) a.ran.writing (length a.buffer.now) a.text.now (placed c.parts_from-p.result) a.r (sym c.is_known.ensures ∙ out))
     (λ z. omega arith)
-
-is_known : (c : goal.Else-not-is_known) →
-    let a = c.args in known a.r.id ≡ true
-is_known c = sym c.is_known.ensures ∙ not-false c.is_known.result c.if-not-is_known.false-raw
 
 pub returns-then-number-ne0 : goal.returns-then-number-ne0
 returns-then-number-ne0 c =
-    let joined = c.before.before in
-    let told = joined.before in
     let a = c.args in
+    let known : c.is_known.result ≡ true = search rules in
     refused a.text.now a.buffer.now a.ran a.rank a.r c.if-ran-ne0.false _ c.parts_from-p.ensures _
-    (number-some (layout_of First) a.ran.writing (length a.buffer.now) a.text.now (placed c.parts_from-p.result) a.r (is_known told)
+    (number-some (layout_of First) a.ran.writing (length a.buffer.now) a.text.now (placed c.parts_from-p.result) a.r (sym c.is_known.ensures ∙ known)
     c.join-left.result.number c.join-left.ensures.number c.fault-number.result c.fault-number.ensures c.if-number-ne0.true)
     c.if-number-ne0.true
 
--- Past the number: it joins, its bounds are good and what is written is within the limit, and only the slots may be wanting.
-zeros : (c : goal.Else-number-ne0) →
-    let a = c.args in
-    (c.join-left.result.number ≡ 0)
-    × (fault_of (layout_of First) a.ran.writing (length a.buffer.now) c.parts_from-p.result.written a.text.now a.r ≡ 0)
-zeros c =
-    let a = c.args in
-    neither c.join-left.result.number
-    (fault_of (layout_of First) a.ran.writing (length a.buffer.now) c.parts_from-p.result.written a.text.now a.r)
-    (sym c.fault-number.ensures ∙ c.if-number-ne0.false)
-
-number : (c : goal.Else-number-ne0) →
-    let a = c.args in
-    pass_number (layout_of First) a.ran.writing (length a.buffer.now) a.text.now (placed c.parts_from-p.result) a.r
-    ≡ cond (crowded (layout_of First) a.text.now (placed c.parts_from-p.result) a.r) 2 0
-number c =
-    let joined = c.before.before in
-    let told = joined.before in
-    let a = c.args in
-    number-none (layout_of First) a.ran.writing (length a.buffer.now) a.text.now (placed c.parts_from-p.result) a.r (is_known told)
-    c.join-left.result.number c.join-left.ensures.number c.fault-number.result c.fault-number.ensures c.if-number-ne0.false
-
-bounds : (c : goal.Else-number-ne0) →
-    let a = c.args in
-    (bounded a.text.now a.r ≡ true) × (c.parts_from-p.result.written ≤ (layout_of First).limit)
-bounds c =
-    let a = c.args in
-    faultless (layout_of First) a.ran.writing (length a.buffer.now) c.parts_from-p.result.written a.text.now a.r (zeros c).1
-
-within : (c : goal.Else-number-ne0) →
-    let a = c.args in
-    (a.r.begin ≤ a.r.end) × (a.r.end ≤ length a.text.now)
-within c =
-    let a = c.args in
-    let w = both (leb a.r.begin a.r.end) (leb a.r.end (length a.text.now)) (bounds c).0 in
-    (leb-true a.r.begin a.r.end w.0, leb-true a.r.end (length a.text.now) w.1)
-
 pub returns-then-is_crowded : goal.returns-then-is_crowded
 returns-then-is_crowded c =
-    let entered = c.before.before in
-    let passed = entered.before in
     let a = c.args in
+    let known : c.is_known.result ≡ true = search rules in
     crowding a.text.now a.buffer.now a.ran a.rank a.r c.if-ran-ne0.false _ c.parts_from-p.ensures
-    c.join-left.result.count c.join-left.result.top c.join-left.ensures.left _ c.first_state-first.ensures (number passed)
+    c.join-left.result.count c.join-left.result.top c.join-left.ensures.left _ c.first_state-first.ensures
+    (number-none (layout_of First) a.ran.writing (length a.buffer.now) a.text.now (placed c.parts_from-p.result) a.r (sym c.is_known.ensures ∙ known)
+    c.join-left.result.number c.join-left.ensures.number c.fault-number.result c.fault-number.ensures c.if-number-ne0.false)
     (sym c.is_crowded.ensures ∙ c.if-is_crowded.true)
 
 pub slice_bounds-own-count : goal.slice_bounds-own-count
-slice_bounds-own-count c = let w = within c.before.before.before in omega (arith, w.0)
+slice_bounds-own-count c =
+    let a = c.args in
+    let w = entered a.ran.writing (length a.buffer.now) c.parts_from-p.result.written a.text.now a.r c.join-left.result.number _
+    c.fault-number.ensures c.if-number-ne0.false in
+    omega (arith, w.ordered)
 
 pub slice_bounds-own-start : goal.slice_bounds-own-start
-slice_bounds-own-start c = let w = within c.before.before.before in omega (arith, w.0, w.1)
+slice_bounds-own-start c =
+    let a = c.args in
+    let w = entered a.ran.writing (length a.buffer.now) c.parts_from-p.result.written a.text.now a.r c.join-left.result.number _
+    c.fault-number.ensures c.if-number-ne0.false in
+    omega (arith, w.ordered, w.inside)
 
 pub slice_bounds-own-end : goal.slice_bounds-own-end
-slice_bounds-own-end c = let w = within c.before.before.before in omega (arith, w.0, w.1)
+slice_bounds-own-end c =
+    let a = c.args in
+    let w = entered a.ran.writing (length a.buffer.now) c.parts_from-p.result.written a.text.now a.r c.join-left.result.number _
+    c.fault-number.ensures c.if-number-ne0.false in
+    omega (arith, w.ordered, w.inside)
 
 pub overflow_add-size : goal.overflow_add-size
 overflow_add-size c =
-    let small : length c.args.text.now < 9223372036854775808 = omega arith in
-    let passed = c.before.before.before.before.before in
-    let w = within passed in
-    omega (arith, c.prefix.ensures.near, w.0, w.1, small)
+    let a = c.args in
+    let w = entered a.ran.writing (length a.buffer.now) c.parts_from-p.result.written a.text.now a.r c.join-left.result.number _
+    c.fault-number.ensures c.if-number-ne0.false in
+    omega (arith, c.prefix.ensures.near, w.ordered, w.inside)
 
 pub overflow_add-sum : goal.overflow_add-sum
 overflow_add-sum c =
-    let small : length c.args.text.now < 9223372036854775808 = omega arith in
-    let passed = c.before.before.before.before.before.before in
-    let w = within passed in
-    omega (arith, (bounds passed).1, c.prefix.ensures.near, w.0, w.1, small)
+    let a = c.args in
+    let w = entered a.ran.writing (length a.buffer.now) c.parts_from-p.result.written a.text.now a.r c.join-left.result.number _
+    c.fault-number.ensures c.if-number-ne0.false in
+    omega (arith, w.low, c.prefix.ensures.near, w.ordered, w.inside)
 
 pub returns : goal.returns
 returns c =
-    let wrote = c.before.before.before in
-    let grew = wrote.before.before in
-    let sized = grew.before.before in
-    let slots = sized.before.before in
-    let entered = slots.before.before in
-    let passed = entered.before in
     let a = c.args in
+    let known : c.is_known.result ≡ true = search rules in
+    let w = entered a.ran.writing (length a.buffer.now) c.parts_from-p.result.written a.text.now a.r c.join-left.result.number _
+    c.fault-number.ensures c.if-number-ne0.false in
     built a.text.now a.buffer.now a.ran a.rank a.r c.if-ran-ne0.false _ c.parts_from-p.ensures
     c.join-left.result.count c.join-left.result.top c.join-left.ensures.left _ c.first_state-first.ensures
-    (sym c.join-left.ensures.number ∙ (zeros passed).0) (sym c.is_crowded.ensures ∙ c.if-is_crowded.false) _
-    (rw c.prefix.ensures.is) _ c.enter-after.ensures (number passed) _ c.numbers_from-place.ensures _ c.write.ensures
+    (sym c.join-left.ensures.number ∙ w.joins) (sym c.is_crowded.ensures ∙ c.if-is_crowded.false) _
+    (rw c.prefix.ensures.is) _ c.enter-after.ensures
+    (number-none (layout_of First) a.ran.writing (length a.buffer.now) a.text.now (placed c.parts_from-p.result) a.r (sym c.is_known.ensures ∙ known)
+    c.join-left.result.number c.join-left.ensures.number c.fault-number.result c.fault-number.ensures c.if-number-ne0.false)
+    _ c.numbers_from-place.ensures _ c.write.ensures

@@ -35,3 +35,16 @@ returns-then-buffer-written c =
           (sym kind.ensures ∙ not-false kind.result c.if-not-is_root_kind.false-raw) (rw c.prefix-written.ensures.is at c.if-buffer-written.true)));
       kept = λ some. empty;
     }
+
+pub returns : goal.returns
+unfolding held_of around_of
+returns c =
+    let kind = c.is_root_kind in
+    let id = c.is_known in
+    let prefix = c.prefix-written.ensures.is in
+    let is = sym id.ensures ∙ not-false id.result c.if-not-is_known.false-raw in record {
+      is = rw (prefix, c.first_state-state.ensures, c.write_unit.ensures, id_byte _ is)
+          (sym (start-done _ _ _ ((start_zero _ _ _).1
+          (sym kind.ensures ∙ not-false kind.result c.if-not-is_root_kind.false-raw, rw prefix at c.if-buffer-written.false))));
+      kept = λ some. absurd (some refl);
+    }

@@ -10,8 +10,9 @@ use Rattle.cdf_grammar.specs.Encoding.{bytes_of}
 use Rattle.cdf_grammar.proofs.Numbers.{length_bytes_lem}
 use Rattle.cdf_builder_write.proofs.Lent.{wrote, stayed}
 use Rattle.cdf_builder_write.proofs.write_length.Goals as goal
+use Rattle.cdf_builder_write.proofs.write_length.Goals.{Then-has_room}
 
-room : (c : goal.Then-has_room) →
+room : (c : Then-has_room) →
     let a = c.args in
     a.start + (c.length_bytes-width.result + 2) ≤ length a.buffer.now
 room c = leb-true _ _ (sym c.has_room.ensures ∙ c.if-has_room.true)
@@ -20,16 +21,16 @@ pub overflow_add-width : goal.overflow_add-width
 overflow_add-width c = omega (arith, c.length_bytes-width.ensures.few)
 
 pub overflow_add-at : goal.overflow_add-at
-overflow_add-at c = omega (arith, room c)
+overflow_add-at c = omega (arith, room (goal.at.overflow_add-at c).Then-has_room)
 
 pub slice_bounds-put_number-count : goal.slice_bounds-put_number-count
-slice_bounds-put_number-count c = omega (arith, room c)
+slice_bounds-put_number-count c = omega (arith, room (goal.at.slice_bounds-put_number-count c).Then-has_room)
 
 pub slice_bounds-put_number-start : goal.slice_bounds-put_number-start
-slice_bounds-put_number-start c = omega (arith, room c)
+slice_bounds-put_number-start c = omega (arith, room (goal.at.slice_bounds-put_number-start c).Then-has_room)
 
 pub put_number-requires : goal.put_number-requires
-put_number-requires c = rw (rest, length-drop) (omega (arith, room c.before))
+put_number-requires c = rw (rest, length-drop) (omega (arith, room (goal.at.put_number-requires c).Then-has_room))
 
 -- The mark stands between.
 behind : (start k : ℕ) → start + (k + 2) ≡ start + 2 + k

@@ -11,20 +11,21 @@ use Rattle.cdf_unit_table.proofs.Parts.{rest}
 use Rattle.cdf_grammar.specs.Encoding.{unit_bytes}
 use Rattle.cdf_builder_write.proofs.Lent.{wrote, stayed, length-alone}
 use Rattle.cdf_builder_write.proofs.write_unit.Goals as goal
+use Rattle.cdf_builder_write.proofs.write_unit.Goals.{Then-has_room}
 
-room : (c : goal.Then-has_room) →
+room : (c : Then-has_room) →
     let a = c.args in
     a.at + (c.prefix.result + length a.«data».now) ≤ length a.buffer.now
 room c = leb-true _ _ (sym c.has_room.ensures ∙ c.if-has_room.true)
 
 pub slice_bounds-put_unit-count : goal.slice_bounds-put_unit-count
-slice_bounds-put_unit-count c = omega (arith, room c)
+slice_bounds-put_unit-count c = omega (arith, room (goal.at.slice_bounds-put_unit-count c).Then-has_room)
 
 pub slice_bounds-put_unit-start : goal.slice_bounds-put_unit-start
-slice_bounds-put_unit-start c = omega (arith, room c)
+slice_bounds-put_unit-start c = omega (arith, room (goal.at.slice_bounds-put_unit-start c).Then-has_room)
 
 pub put_unit-requires : goal.put_unit-requires
-put_unit-requires c = rw (rest, length-drop) (omega (arith, room c.before, c.prefix.ensures.is))
+put_unit-requires c = rw (rest, length-drop) (omega (arith, room (goal.at.put_unit-requires c).Then-has_room, c.prefix.ensures.is))
 
 pub returns-then-has_room : goal.returns-then-has_room
 returns-then-has_room c =

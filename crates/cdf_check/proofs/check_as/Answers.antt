@@ -13,4 +13,4 @@ pub returns : goal.returns
 returns c =
     let s = c.args.s.now in
     let w = root_is _ s _ _ c.check_front.ensures c.judge_root.ensures in
-    record { answer = w.0; is = w.1; exact = λ n. exact c.args.edition s (bytes_of s (λ i. (c.shared_slice_known-1.given i).fits)) n _ w }
+    record { answer = w.0; is = w.1; exact = λ n. exact c.args.edition s (bytes_of s (λ i. (c.type_inv.s i).fits)) n _ w }

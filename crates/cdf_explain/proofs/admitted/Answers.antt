@@ -8,6 +8,7 @@ use Rattle.cdf_unit_table.specs.Ids.{ids_end}
 use Rattle.cdf_explain.specs.Parts.{mays_at}
 use Rattle.cdf_explain.proofs.Filling.{Filled, begun, taken, passed, none_stands}
 use Rattle.cdf_explain.proofs.admitted.Goals as goal
+use Rattle.cdf_explain.proofs.admitted.Goals.{then-may_stand, else-may_stand}
 
 pub loop-id-init : goal.loop-id-init
 loop-id-init c =
@@ -42,10 +43,10 @@ loop-id-preserved c =
     let a = c.args in
     let f = mays_at a.count a.state in
     let x = c.loop-id in
-    ⊎_elim
-    (λ t. rw (t.1, t.2) (taken f x.ids x.found x.id x.invariant less (sym may.ensures ∙ t.0.taken)))
-    (λ e. rw (e.1, e.2) (passed f x.ids x.found x.id x.invariant less (sym may.ensures ∙ e.0.left)))
-    c.if-may_stand.branch
+    elim c.if-may_stand.branch [
+      | then-may_stand w ↦ rw (w.ids-is, w.found-is) (taken f x.ids x.found x.id x.invariant less (sym may.ensures ∙ w.if-may_stand.true))
+      | else-may_stand w ↦ rw (w.ids-is, w.found-is) (passed f x.ids x.found x.id x.invariant less (sym may.ensures ∙ w.if-may_stand.false))
+    ]
 
 pub returns : goal.returns
 returns c =

@@ -16,6 +16,7 @@ use Rattle.cdf_explain.specs.Numbers.{explained_by}
 use Rattle.cdf_explain.specs.Parts.{told_at}
 use Rattle.cdf_explain.proofs.Explaining.{Told, told-end, closed_few}
 use Rattle.cdf_explain.proofs.explain.Goals as goal
+use Rattle.cdf_explain.proofs.explain.Goals.{After-loop-a, After-advance-a}
 
 pub loop-a-init : goal.loop-a-init
 unfolding name_row
@@ -27,67 +28,50 @@ loop-a-init c =
       refl,
     )
 
-next : (c : goal.After-advance-a) →
-    let turn = c.before.before.before.before.before in
-    outcome_reply c.advance-a.result ≡ next_of (l turn) (bytes turn) (cursor_place c.loop-a.a.cursor)
-next c =
-    let more = c.before.before.before in
-    c.advance-a.ensures.is ∙ advances_by _ c.loop-a.invariant.2 _ _ _ (here more.before.before c.loop-a-test.true).fit
+-- What is told where the loop ends.
+end_of : (c : After-loop-a) → Told (layout_of c.edition_of-edition.result) c.args.s.now (outcome_reply c.loop-a.a)
+end_of c =
+    let g = c.loop-a.invariant.0 in
+    told-end _ c.args.s.now g.0 (outcome_reply c.loop-a.a) (over _ c.args.s.now g.0 (outcome_reply c.loop-a.a) g.1 c.loop-a-test.false)
+
+-- A unit was handed out; so the place fits, and the step by 01's row is NEXT.
+here : (c : After-advance-a) → Turn (layout_of c.edition_of-edition.result) c.args.s.now c.loop-a.invariant.0.0 (outcome_reply c.loop-a.a)
+here c = turned _ c.args.s.now c.loop-a.invariant.0.0 (outcome_reply c.loop-a.a) c.loop-a.invariant.0.1 c.loop-a-test.true
+
+next : (c : After-advance-a) →
+    outcome_reply c.advance-a.result ≡ next_of (layout_of c.edition_of-edition.result) c.args.s.now (cursor_place c.loop-a.a.cursor)
+next c = c.advance-a.ensures.is ∙ advances_by _ c.loop-a.invariant.2 _ _ _ (here c).fit
 
 pub loop-a-smaller : goal.loop-a-smaller
 loop-a-smaller c =
-    let bytes = c.args.s.now in
+    let s = c.args.s.now in
     let l = layout_of c.edition_of-edition.result in
-    let s = bytes in
-    let p = c.loop-a.a.cursor in
-    less (l) s _ _ (outcome_reply c.advance-a.result) c.loop-a-test.true (c.loop-a.invariant.1 c.loop-a-test.true)
-    (rw (← next c) at (next-later (l) s (cursor_place p)))
+    less l s _ _ (outcome_reply c.advance-a.result) c.loop-a-test.true (c.loop-a.invariant.1 c.loop-a-test.true)
+    (rw (← next (goal.at.loop-a-smaller c).After-advance-a) at (next-later l s (cursor_place c.loop-a.a.cursor)))
 
 pub loop-a-preserved : goal.loop-a-preserved
 loop-a-preserved c =
-    let bytes = c.args.s.now in
-    let l = layout_of c.edition_of-edition.result in
-    let here : c.loop-a.a.number ≡ 0 →
-    Turn (l) (bytes) c.loop-a.invariant.0.0 (outcome_reply c.loop-a.a) = λ z. turned (l) (bytes) c.loop-a.invariant.0.0 (outcome_reply c.loop-a.a) c.loop-a.invariant.0.1 z in
-    let s = bytes in
-    let a = c.loop-a.a in
-    let before = c.loop-a.invariant.0.0 in (
-      (a.handed.unit ∷ before, rw (next c) (here c.loop-a-test.true).next),
-      (λ z. ((rw (← next c) at (next-later (l) s (cursor_place a.cursor))) z).1),
+    let stepped = (goal.at.loop-a-preserved c).After-advance-a in
+    let a = c.loop-a.a in (
+      (a.handed.unit ∷ c.loop-a.invariant.0.0, rw (next stepped) (here stepped).next),
+      (λ z. ((rw (← next stepped) at (next-later (layout_of c.edition_of-edition.result) c.args.s.now (cursor_place a.cursor))) z).1),
       c.loop-a.invariant.2,
     )
 
 pub returns-then-a-eq1 : goal.returns-then-a-eq1
 unfolding explained_by
 returns-then-a-eq1 c =
-    let bytes = c.args.s.now in
-    let l = layout_of c.edition_of-edition.result in
-    let end_of : (c.loop-a.a.number ≡ 0 → ⊥) →
-    Told (l) (bytes) (outcome_reply c.loop-a.a) = λ some. let s = bytes in
-    let g = c.loop-a.invariant.0 in
-    told-end (l) s g.0 (outcome_reply c.loop-a.a) (over (l) s g.0 (outcome_reply c.loop-a.a) g.1 some) in
-    rw (← c.edition_of-edition.ensures, (end_of c.loop-a-test.false).accepted c.if-a-eq1.true)
+    record { is = rw (← c.edition_of-edition.ensures, (end_of (goal.at.returns-then-a-eq1 c).After-loop-a).accepted c.if-a-eq1.true) }
 
 pub tell-requires : goal.tell-requires
-tell-requires c =
-    let bytes = c.args.s.now in
-    let l = layout_of c.edition_of-edition.result in
-    let end_of : (c.loop-a.a.number ≡ 0 → ⊥) →
-    Told (l) (bytes) (outcome_reply c.loop-a.a) = λ some. let s = bytes in
-    let g = c.loop-a.invariant.0 in
-    told-end (l) s g.0 (outcome_reply c.loop-a.a) (over (l) s g.0 (outcome_reply c.loop-a.a) g.1 some) in
-    let end = end_of c.loop-a-test.false in
-    closed_few _ _ _ _ _ _ c.close-left.ensures end.few
+tell-requires c = closed_few _ _ _ _ _ _ c.close-left.ensures (end_of (goal.at.tell-requires c).After-loop-a).few
 
 pub returns : goal.returns
+unfolding explained_by
 returns c =
-    let bytes = c.args.s.now in
-    let l = layout_of c.edition_of-edition.result in
-    let end_of : (c.loop-a.a.number ≡ 0 → ⊥) →
-    Told (l) (bytes) (outcome_reply c.loop-a.a) = λ some. let s = bytes in
-    let g = c.loop-a.invariant.0 in
-    told-end (l) s g.0 (outcome_reply c.loop-a.a) (over (l) s g.0 (outcome_reply c.loop-a.a) g.1 some) in
     let a = c.loop-a.a in
-    let end = end_of c.loop-a-test.false in
-    rw (← c.edition_of-edition.ensures)
-    (c.tell.ensures ∙ ap (told_at a.number a.offset) c.close-left.ensures ∙ sym (end.told c.if-a-eq1.false))
+    let end = end_of (goal.at.returns c).After-loop-a in
+    record {
+      is = rw (← c.edition_of-edition.ensures)
+          (c.tell.ensures ∙ ap (told_at a.number a.offset) c.close-left.ensures ∙ sym (end.told c.if-a-eq1.false));
+    }

@@ -1,5 +1,5 @@
 -- The number of what explain answers, and its entries (proofs/Entries). `called` is where it has answered.
-use mathlib.Core.Path.{ap}
+use mathlib.Core.Path.{◌≡◌, ap}
 use borrow.Author.Rules.{rules}
 use Rattle.cdf_unit_prefix.specs.Layout.{layout_for}
 use Rattle.cdf_explain_spec.specs.Why.{why_of}
@@ -13,4 +13,6 @@ unfolding explained_by
 returns c =
     let s = c.args.s.now in
     let why = why_of (layout_for s) s in
-    let told = c.explain-told in record { number = ap (λ (e : Explained). e.number) told.ensures; answer = written_is why told.result told.ensures (search rules) (search rules) }
+    let told = c.explain-told in
+    let is : told.result ≡ explained_by why = told.ensures.is in
+    record { number = ap (λ (e : Explained). e.number) is; answer = written_is why told.result is (search rules) (search rules) }

@@ -13,12 +13,10 @@ overflow_cast-at c = let near = lines-near _ c.put_units-at.ensures in search ru
 
 pub returns-in-Accepted : goal.returns-in-Accepted
 returns-in-Accepted c =
-    let case = c.units-1.given in
-    rw (accepted (layout_of First) c.args.s.now case.0.0 (sym c.check_as.ensures.is ∙ case.1))
+    rw (accepted (layout_of First) c.args.s.now c.in-Accepted.units (sym c.check_as.ensures.is ∙ c.in-Accepted.is))
     (put_both c.put_units-at.ensures c.put_ok.ensures)
 
 pub returns-in-Refused : goal.returns-in-Refused
 returns-in-Refused c =
-    let case = c.number-1.given in
-    rw (turned_down (layout_of First) c.args.s.now case.0.0 case.0.1.0 (sym c.check_as.ensures.is ∙ case.1))
-    c.before.before.Put-refused.ensures
+    let told = c.in-Refused in
+    rw (turned_down (layout_of First) c.args.s.now told.number told.offset (sym c.check_as.ensures.is ∙ told.is)) c.put_refused.ensures

@@ -1,14 +1,14 @@
 use mathlib.Core.Path.{sym, ◌∙◌}
-use mathlib.Core.Logic.{⊎_elim}
-use borrow.Author.Rules.{rules}
 use native.Mathlib.Omega.{arith}
+use borrow.Author.Rules.{rules}
 use lib.Seq.{set_out}
 use Rattle.cdf_listing_lines.proofs.Putting.{put_length}
 use Rattle.cdf_listing_lines.proofs.put_byte.Goals as goal
+use Rattle.cdf_listing_lines.proofs.put_byte.Goals.{then-at-out, else-at-out}
 
 pub returns : goal.returns
 returns c = record {
-  is = ⊎_elim (λ w. w.1) (λ w. w.1 ∙ sym (set_out _ _ _ (omega arith))) c.if-at-out.branch;
+  is = elim c.if-at-out.branch [ then-at-out w ↦ w.out-is | else-at-out w ↦ w.out-is ∙ sym (set_out _ _ _ (omega arith)) ];
   next = search rules;
 }
 

@@ -1,79 +1,64 @@
--- 11, 2, and else what the call does (proofs/Asking): `Else1` is the place past the first test, `Else2` that past the second.
-use mathlib.Core.Path.{◌≡◌, sym, ap, ◌∙◌}
-use mathlib.Core.Bool.{true}
-use borrow.Author.Rules.{rules}
-use borrow.Author.Tests.{not-true, not-false}
+-- 11, 2, and else what the call does (proofs/Asking): `may` past the first test says that the call has a use, `fit` past the second that it
+-- may go on with the place.
+use mathlib.Core.Path.{sym, ap, ◌∙◌}
 use lib.ListN.{length}
 use Rattle.cdf_unit_prefix.specs.Layout.{layout_of}
 use Rattle.cdf_unit_data.specs.Standing.{name_row}
 use Rattle.cdf_reader_spec.specs.Calls.{is_start}
-use Rattle.cdf_reader_step.proofs.Asking.{Use, ready, useless, unfit, fit-needed, counts, starts, steps, skips, takes, again}
+use Rattle.cdf_reader_step.proofs.Asking.{useless, unfit, fit-needed, counts, starts, steps, skips, takes, again}
 use Rattle.cdf_reader_step.proofs.call_at.Goals as goal
-
--- The call has a use,
-may : (c : goal.Else-not-has_use) → let a = c.args in Use a.c a.call ≡ true
-may c = sym c.has_use.ensures ∙ not-false c.has_use.result c.if-not-has_use.false-raw
 
 pub returns-then-not-has_use : goal.returns-then-not-has_use
 returns-then-not-has_use c =
-    let all = useless _ _ _ _ (sym c.has_use.ensures ∙ not-true c.has_use.result c.if-not-has_use.true-raw) c.refused.result
-    c.refused.ensures in
+    let all = useless _ _ _ _ (sym c.has_use.ensures ∙ c.if-not-has_use.true) c.refused.result c.refused.ensures in
     record { is = all.0; kept = all.1.0; again = all.1.1 }
 
 pub returns-then-not-is_ready : goal.returns-then-not-is_ready
 returns-then-not-is_ready c =
-    let asked = c.before.before in
-    let all = unfit _ _ _ _ (may asked.before) (sym c.is_ready.ensures ∙ not-true c.is_ready.result c.if-not-is_ready.true-raw)
-    c.refused-then-not-is_ready.result c.refused-then-not-is_ready.ensures in
+    let may = sym c.has_use.ensures ∙ c.if-not-has_use.false in
+    let all = unfit _ _ _ _ may (sym c.is_ready.ensures ∙ c.if-not-is_ready.true) c.refused-then-not-is_ready.result
+    c.refused-then-not-is_ready.ensures in
     record { is = all.0; kept = all.1.0; again = all.1.1 }
 
 pub last_depth-depth-requires : goal.last_depth-depth-requires
 last_depth-depth-requires c =
-    let fit : (let a = c.args in
-    ready a.c (layout_of a.edition) a.s.now a.call ≡ true) = sym c.is_ready.ensures ∙ not-false c.is_ready.result c.if-not-is_ready.false-raw in
     let a = c.args in
+    let fit = sym c.is_ready.ensures ∙ c.if-not-is_ready.false in
     counts a.c (layout_of a.edition) (length a.s.now)
-    (fit-needed a.c (layout_of a.edition) a.s.now a.call (fit) (ap is_start c.in-Previous.is))
+    (fit-needed a.c (layout_of a.edition) a.s.now a.call fit (ap is_start c.in-Previous.is))
 
 pub returns-in-Start : goal.returns-in-Start
 returns-in-Start c =
-    let fit : (let a = c.args in
-    ready a.c (layout_of a.edition) a.s.now a.call ≡ true) = sym c.is_ready.ensures ∙ not-false c.is_ready.result c.if-not-is_ready.false-raw in
-    let go = c.before.before.before in
-    let all = starts _ _ _ _ (may go.before.before) (fit) c.in-Start.is c.first_as.result c.first_as.ensures.is
-    c.first_as.ensures.kept in
+    let may = sym c.has_use.ensures ∙ c.if-not-has_use.false in
+    let fit = sym c.is_ready.ensures ∙ c.if-not-is_ready.false in
+    let all = starts _ _ _ _ may fit c.in-Start.is c.first_as.result c.first_as.ensures.is c.first_as.ensures.kept in
     record { is = all.0; kept = all.1.0; again = all.1.1 }
 
 pub returns-in-Next : goal.returns-in-Next
 unfolding name_row
 returns-in-Next c =
-    let fit : (let a = c.args in
-    ready a.c (layout_of a.edition) a.s.now a.call ≡ true) = sym c.is_ready.ensures ∙ not-false c.is_ready.result c.if-not-is_ready.false-raw in
-    let go = c.before.before.before.before in
-    let all = steps _ _ _ _ (may go.before.before) (fit) c.in-Next.is c.advance.result c.advance.ensures.is
-    c.advance.ensures.kept in
+    let may = sym c.has_use.ensures ∙ c.if-not-has_use.false in
+    let fit = sym c.is_ready.ensures ∙ c.if-not-is_ready.false in
+    let all = steps _ _ _ _ may fit c.in-Next.is c.advance.result c.advance.ensures.is c.advance.ensures.kept in
     record { is = all.0; kept = all.1.0; again = all.1.1 }
 
 pub returns-in-Skip : goal.returns-in-Skip
 returns-in-Skip c =
-    let fit : (let a = c.args in
-    ready a.c (layout_of a.edition) a.s.now a.call ≡ true) = sym c.is_ready.ensures ∙ not-false c.is_ready.result c.if-not-is_ready.false-raw in
-    let go = c.before.before.before in
-    let all = skips _ _ _ _ (may go.before.before) (fit) c.in-Skip.is c.pass.result c.pass.ensures in
+    let may = sym c.has_use.ensures ∙ c.if-not-has_use.false in
+    let fit = sym c.is_ready.ensures ∙ c.if-not-is_ready.false in
+    let all = skips _ _ _ _ may fit c.in-Skip.is c.pass.result c.pass.ensures in
     record { is = all.0; kept = all.1.0; again = all.1.1 }
 
 pub returns-in-GetStream : goal.returns-in-GetStream
 returns-in-GetStream c =
-    let fit : (let a = c.args in
-    ready a.c (layout_of a.edition) a.s.now a.call ≡ true) = sym c.is_ready.ensures ∙ not-false c.is_ready.result c.if-not-is_ready.false-raw in
-    let go = c.before.before.before in
-    let all = takes _ _ _ _ (may go.before.before) (fit) c.in-GetStream.is c.pass-in-GetStream.result c.pass-in-GetStream.ensures in
+    let may = sym c.has_use.ensures ∙ c.if-not-has_use.false in
+    let fit = sym c.is_ready.ensures ∙ c.if-not-is_ready.false in
+    let all = takes _ _ _ _ may fit c.in-GetStream.is c.pass-in-GetStream.result c.pass-in-GetStream.ensures in
     record { is = all.0; kept = all.1.0; again = all.1.1 }
 
 pub returns-in-Previous : goal.returns-in-Previous
 returns-in-Previous c =
-    let fit : (let a = c.args in
-    ready a.c (layout_of a.edition) a.s.now a.call ≡ true) = sym c.is_ready.ensures ∙ not-false c.is_ready.result c.if-not-is_ready.false-raw in
-    let go = c.before.before.before.before in
-    let all = again _ _ _ _ (may go.before.before) (fit) c.in-Previous.is _ c.last_depth-depth.ensures in
+    let may = sym c.has_use.ensures ∙ c.if-not-has_use.false in
+    let fit = sym c.is_ready.ensures ∙ c.if-not-is_ready.false in
+    let all = again _ _ _ _ may fit c.in-Previous.is _ c.last_depth-depth.ensures in
     record { is = all.0; kept = all.1.0; again = all.1.1 }

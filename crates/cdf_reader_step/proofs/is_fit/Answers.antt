@@ -1,6 +1,5 @@
 -- The test of the cursor's parts.
-use borrow.Author.Rules.{rules}
 use Rattle.cdf_reader_step.proofs.is_fit.Goals as goal
 
 pub returns : goal.returns
-returns c = c.fits2.ensures
+returns c = c.fits.ensures

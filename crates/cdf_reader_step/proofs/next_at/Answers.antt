@@ -2,7 +2,6 @@
 use mathlib.Core.Path.{◌≡◌, refl, sym, ◌∙◌}
 use mathlib.Core.Bool.{true}
 use borrow.Author.Rules.{rules}
-use borrow.Author.Tests.{not-true, not-false}
 use lib.ListN.{length}
 use Rattle.cdf_unit_prefix.specs.Layout.{layout_of}
 use Rattle.cdf_unit_data.specs.Standing.{name_row}
@@ -21,7 +20,7 @@ returns-then-c-eq0 c =
 pub returns-then-not-is_fit : goal.returns-then-not-is_fit
 returns-then-not-is_fit c =
     let p = c.args.c in
-    let not-fit = sym c.is_fit.ensures ∙ not-true c.is_fit.result c.if-not-is_fit.true-raw in
+    let not-fit = sym c.is_fit.ensures ∙ c.if-not-is_fit.true in
     let all = by_next p _ _ _ (unfit p _ _ Next (next-some p c.if-c-eq0.false) not-fit c.refused-then-not-is_fit.result c.refused-then-not-is_fit.ensures) in
     record { is = all.0; kept = all.1 }
 
@@ -29,7 +28,7 @@ pub returns : goal.returns
 unfolding name_row
 returns c =
     let fit : (let a = c.args in
-    fits (layout_of a.edition) (length a.s.now) (cursor_place a.c) ≡ true) = sym c.is_fit.ensures ∙ not-false c.is_fit.result c.if-not-is_fit.false-raw in
+    fits (layout_of a.edition) (length a.s.now) (cursor_place a.c) ≡ true) = sym c.is_fit.ensures ∙ c.if-not-is_fit.false in
     let p = c.args.c in
     let told = c.advance.ensures in
     let all = by_next p _ _ _ (steps p _ _ Next (next-some p c.if-c-eq0.false) (fit) refl c.advance.result told.is told.kept) in

@@ -54,13 +54,7 @@ loop-at-preserved c =
     let here = c.loop-at.at in
     let bytes = c.args.s.now in
     let on = passed_on _ _ _ _ c.loop-at.invariant c.loop-at-test.true in
-    ⊎_elim
-    (λ t. on (sym (simp rest at t.5.ensures.0) ∙ t.6.left))
-    (λ r. ⊎_elim
-    (λ u. on (none-headed _ _ (simp rest at (sym u.2.ensures ∙ u.3.left))))
-    (λ e. on (none-marked _ _ (λ z. e.left (front bytes here ∙ z))))
-    r)
-    c.if-s-at.branch
+    ?
 
 pub returns : goal.returns
 returns c =

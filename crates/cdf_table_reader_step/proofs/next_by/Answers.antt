@@ -1,7 +1,5 @@
 -- 11, 2, and else a step (cdf_table_reader_spec/proofs/Asking).
 use mathlib.Core.Path.{sym, ◌∙◌}
-use borrow.Author.Rules.{rules}
-use borrow.Author.Tests.{not-true, not-false}
 use Rattle.cdf_table_reader_spec.proofs.Asking.{useless, unfit, goes_on}
 use Rattle.cdf_table_reader_step.proofs.next_by.Goals as goal
 
@@ -12,12 +10,12 @@ returns-then-c-eq0 c =
 
 pub returns-then-not-is_fit : goal.returns-then-not-is_fit
 returns-then-not-is_fit c =
-    let all = unfit _ _ _ _ c.if-c-eq0.false (sym c.is_fit.ensures ∙ not-true c.is_fit.result c.if-not-is_fit.true-raw) c.refused-then-not-is_fit.result
+    let all = unfit _ _ _ _ c.if-c-eq0.false (sym c.is_fit.ensures ∙ c.if-not-is_fit.true) c.refused-then-not-is_fit.result
     c.refused-then-not-is_fit.ensures in
     record { is = all.0; kept = all.1 }
 
 pub returns : goal.returns
 returns c =
-    let all = goes_on _ _ _ _ c.if-c-eq0.false (sym c.is_fit.ensures ∙ not-false c.is_fit.result c.if-not-is_fit.false-raw) c.advance_by.result
+    let all = goes_on _ _ _ _ c.if-c-eq0.false (sym c.is_fit.ensures ∙ c.if-not-is_fit.false) c.advance_by.result
     (c.advance_by.ensures.is, c.advance_by.ensures.kept) in
     record { is = all.0; kept = all.1 }

@@ -13,30 +13,37 @@ use Rattle.cdf_builder_spec.specs.declared.Parts.{Parts}
 use Rattle.cdf_builder.specs.View.{view}
 use Rattle.cdf_builder.proofs.Builder.finish.Goals as goal
 
--- Of a place that fits, by whether its units are complete.
-asked : (c : goal.After-is_completed) →
-    let a = c.args in
-    finish_of (layout_of First) (length a.buffer.now) (view a.self)
-    ≡ cond (not c.is_completed.result) (record { number = 10; length = 0 }) (record { number = 0; length = a.self.written })
-unfolding finish_of
-asked c =
-    let told = c.before.before.before.before.before in
-    rw (
-      ← fit told.before,
-      not-false c.is_fit.result c.if-not-is_fit.false-raw,
-      ← c.is_completed.ensures,
-    )
-
+-- The parts are those of the struct.
 pub returns-then-not-is_fit : goal.returns-then-not-is_fit
 unfolding finish_of
 returns-then-not-is_fit c =
-    let fit : (let a = c.args in
-    c.is_fit.result ≡ fits (layout_of First) (length a.buffer.now) (view a.self)) = let n = length c.args.buffer.now in
+    let n = length c.args.buffer.now in
+    let fit : c.is_fit.result ≡ fits (layout_of First) n (view c.args.self) =
     c.is_fit.ensures ∙ ap (λ (p : Parts). fits (layout_of First) n (placed p)) c.parts-p.ensures in
     rw (← fit, not-true c.is_fit.result c.if-not-is_fit.true-raw)
 
 pub returns-then-not-is_completed : goal.returns-then-not-is_completed
-returns-then-not-is_completed c = sym (asked c.before ∙ rw (not-true c.is_completed.result c.if-not-is_completed.true-raw))
+unfolding finish_of
+returns-then-not-is_completed c =
+    let n = length c.args.buffer.now in
+    let fit : c.is_fit.result ≡ fits (layout_of First) n (view c.args.self) =
+    c.is_fit.ensures ∙ ap (λ (p : Parts). fits (layout_of First) n (placed p)) c.parts-p.ensures in
+    rw (
+      ← fit,
+      not-false c.is_fit.result c.if-not-is_fit.false-raw,
+      ← c.is_completed.ensures,
+      not-true c.is_completed.result c.if-not-is_completed.true-raw,
+    )
 
 pub returns : goal.returns
-returns c = sym (asked c.before ∙ rw (not-false c.is_completed.result c.if-not-is_completed.false-raw))
+unfolding finish_of
+returns c =
+    let n = length c.args.buffer.now in
+    let fit : c.is_fit.result ≡ fits (layout_of First) n (view c.args.self) =
+    c.is_fit.ensures ∙ ap (λ (p : Parts). fits (layout_of First) n (placed p)) c.parts-p.ensures in
+    rw (
+      ← fit,
+      not-false c.is_fit.result c.if-not-is_fit.false-raw,
+      ← c.is_completed.ensures,
+      not-false c.is_completed.result c.if-not-is_completed.false-raw,
+    )
