@@ -1,19 +1,16 @@
 -- The answer, stage by stage.
-use Prim.Native.Nat.{ℕ, ◌+◌, ◌≤◌}
+use Prim.Native.Nat.{ℕ}
 use mathlib.Core.Path.{◌≡◌, refl, sym, ap, ◌∙◌}
 use mathlib.Core.Bool.{Bool, true, false, not, cond, ◌&&◌}
 use mathlib.Core.List.{List}
-use native.Mathlib.Omega.{arith}
 use borrow.Author.Tests.{eq-eqb, ne_eqb}
 use lib.Dec.{eqb}
-use lib.ListN.{length}
 use Rattle.cdf_unit_prefix.specs.Layout.{Layout, edition_of, layout_for}
 use Rattle.cdf_unit_list.specs.Units.{listing}
 use Rattle.cdf_unit_list.specs.Check.{check_of}
 use Rattle.cdf_grammar.specs.Encoding.{Bytes}
 use Rattle.cdf_grammar.proofs.Proved.{proved}
 use Rattle.cdf_lookup_spec.specs.Find.{Query, value_in, refusal, found, or_else, is_group, lookup_of}
-use Rattle.cdf_lookup_spec.specs.Chosen.{stream_of}
 use Rattle.cdf_lookup_spec.specs.declared.Lookup.{Lookup}
 use Rattle.cdf_lookup_spec.specs.declared.Value.{Value}
 use Rattle.cdf_lookup_spec.specs.declared.Value.TheVariants.{At, Missing}
@@ -93,15 +90,3 @@ module _ (v w : Value) (x : Lookup) (e : x ≡ or_else 1 v (or_else 2 w (refusal
     pub of-neither : w ≡ Missing → refusal 15 0 ≡ x
     unfolding or_else
     of-neither g = rw (e, f, g)
-
--- What a lookup promises of an answer x, which is due.
-module _ (s t : List ℕ) (x : Lookup) where
-  abbrev Answers : Lookup → Type 0
-  Answers r = (r ≡ x) × (r.start + r.size ≤ length (stream_of r.which s t))
-
-  pub refuses : (r : Lookup) (n at : ℕ) → r ≡ refusal n at → refusal n at ≡ x → Answers r
-  refuses r n at e f = rw e (f, omega arith)
-
-  pub finds : (r : Lookup) (which a end : ℕ) → r ≡ found which a end → found which a end ≡ x →
-      (a ≤ end) × (end ≤ length (stream_of which s t)) → Answers r
-  finds r which a end e f h = rw e (f, omega (arith, h.0, h.1))

@@ -10,9 +10,8 @@ use Rattle.cdf_lookup.proofs.lookup.Goals as goal
 
 pub overflow_add-end : goal.overflow_add-end
 overflow_add-end c =
-    let entry = c.before.before.before.before.before.before in
-    let a = (entry).args in
-    let long = (entry).well-formed in
+    let a = c.args in
+    let long = c.well_formed in
     omega (
       arith,
       in_both c.lookup_place-a.result.which a.first.now a.second.now _ c.lookup_place-a.ensures.within,
@@ -22,8 +21,7 @@ overflow_add-end c =
 
 pub slice_bounds-result-end : goal.slice_bounds-result-end
 slice_bounds-result-end c =
-    let entry = c.before.before.before.before.before.before in
-    let a = (entry).args in
+    let a = c.args in
     omega (arith, in-second c.lookup_place-a.result.which a.first.now a.second.now _ c.lookup_place-a.ensures.within c.if-a-eq2.true)
 
 pub returns-then-a-eq2 : goal.returns-then-a-eq2
@@ -35,8 +33,7 @@ returns-then-a-eq2 c =
 
 pub slice_bounds-result-end-2 : goal.slice_bounds-result-end-2
 slice_bounds-result-end-2 c =
-    let entry = c.before.before.before.before.before.before in
-    let a = (entry).args in
+    let a = c.args in
     omega (arith, in-first c.lookup_place-a.result.which a.first.now a.second.now _ c.lookup_place-a.ensures.within c.if-a-eq2.false)
 
 pub returns : goal.returns

@@ -1,11 +1,6 @@
 -- Where the arrays are full, and where they are not.
-use mathlib.Core.Path.{◌≡◌}
-use borrow.Author.Rules.{rules}
 use Rattle.cdf_resolve.proofs.Keeping.{hold-full, hold-new, hold-doubled}
 use Rattle.cdf_resolve.proofs.hold.Goals as goal
-
-room : (find : goal.After-find-i) → (start find).args.t.templates ≡ 256 → ⊥
-room find = find.if-n-eq256.false
 
 pub returns-then-n-eq256 : goal.returns-then-n-eq256
 returns-then-n-eq256 c =
@@ -14,16 +9,12 @@ returns-then-n-eq256 c =
 
 pub returns-then-i-n : goal.returns-then-i-n
 returns-then-i-n c =
-    let start = c.before.before.before.before.before.before.before.before in
-    let find = c.before in
-    let a = (start).args in
-    λ p k. hold-new _ a.s.now p a.t _ _ _ k a.owner (room find) (start).requires.2 _ c.find-i.ensures c.if-i-n.true
+    let a = c.args in
+    λ p k. hold-new _ a.s.now p a.t _ _ _ k a.owner c.if-n-eq256.false c.requires.2 _ c.find-i.ensures c.if-i-n.true
 
 pub returns : goal.returns
 returns c =
-    let start = c.before.before.before.before.before.before.before.before in
-    let find = c.before.before in
-    let a = (start).args in
+    let a = c.args in
     λ p k.
     rw c.doubled_at-graver.ensures
-    (hold-doubled _ a.s.now p a.t _ _ _ k a.owner (room find) (start).requires.2 _ c.find-i.ensures c.if-i-n.false)
+    (hold-doubled _ a.s.now p a.t _ _ _ k a.owner c.if-n-eq256.false c.requires.2 _ c.find-i.ensures c.if-i-n.false)

@@ -1,5 +1,4 @@
 -- The check first.
-use borrow.Author.Rules.{rules}
 use Rattle.cdf_resolve.proofs.Answering.{accepts, by-check}
 use Rattle.cdf_resolve.proofs.resolve.Goals as goal
 
@@ -10,7 +9,6 @@ resolve_accepted-requires c =
 pub returns-in-Refused : goal.returns-in-Refused
 returns-in-Refused c =
     let a = c.args in
-    let case = c.number-1.given in
-    let all = by-check _ a.s.now a.list.now _ c.check.ensures.answer c.check.ensures.is _ _ case.1 _
+    let all = by-check _ a.s.now a.list.now _ c.check.ensures.answer c.check.ensures.is _ _ c.in-Refused.is _
     c.refused.ensures in
     record { is = all.0; ranks = all.1 }
