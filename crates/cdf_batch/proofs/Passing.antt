@@ -8,7 +8,7 @@ use lib.ListN.{length, get_or, drop, drop_of_length-le}
 use Rattle.cdf_unit_prefix.specs.Layout.{Layout}
 use Rattle.cdf_batch_spec.specs.declared.UnitRequest.{UnitRequest}
 use Rattle.cdf_batch_turn.specs.Passes.{Going, turn_of, pass_of}
-use Rattle.cdf_batch_turn.proofs.Twice.{pass-cons, pass-none}
+use Rattle.cdf_batch_turn.proofs.Twice.{pass_cons, pass_none}
 
 drop-cons : (k : ℕ) (rs : List UnitRequest) (z : UnitRequest) → k < length rs → drop k rs ≡ get_or rs k z ∷ drop (suc k) rs
 drop-cons k [] z l = absurd (omega (arith, l))
@@ -21,7 +21,7 @@ suc_is k = omega arith
 module _ (l : Layout) (text : List ℕ) (g : Going) (rs : List UnitRequest) (k : ℕ) where
   -- Past the last request the pass is over.
   pub over : length rs ≤ k → pass_of l text g k (drop k rs) ≡ g
-  over h = ap (pass_of l text g k) (drop_of_length-le rs h) ∙ pass-none l text g k
+  over h = ap (pass_of l text g k) (drop_of_length-le rs h) ∙ pass_none l text g k
 
   -- One request more: the one at k, whatever stands in for it past the end.
   pub one_more : k < length rs → (z : UnitRequest) (d : Going) → d ≡ turn_of l text g k (get_or rs k z) →
@@ -29,4 +29,4 @@ module _ (l : Layout) (text : List ℕ) (g : Going) (rs : List UnitRequest) (k :
   one_more h z d e =
       ap (λ (x : Going). pass_of l text x (k + 1) (drop (k + 1) rs)) e
       ∙ ap (λ (j : ℕ). pass_of l text (turn_of l text g k (get_or rs k z)) j (drop j rs)) (suc_is k)
-      ∙ sym (ap (pass_of l text g k) (drop-cons k rs z h) ∙ pass-cons l text g k (get_or rs k z) (drop (suc k) rs))
+      ∙ sym (ap (pass_of l text g k) (drop-cons k rs z h) ∙ pass_cons l text g k (get_or rs k z) (drop (suc k) rs))

@@ -105,8 +105,8 @@ module _ (l : Layout) (n : ℕ) (p : BuilderPlace) (r : UnitRequest) where
   abbrev alone : Bool
   alone = homeless r.id p.units
 
-  abbrev open-end : Bool
-  open-end = incomplete r.id p.units
+  abbrev open_end : Bool
+  open_end = incomplete r.id p.units
 
   abbrev wrong : Bool
   wrong = not (action_allowed r.id r.action)
@@ -119,20 +119,20 @@ module _ (l : Layout) (n : ℕ) (p : BuilderPlace) (r : UnitRequest) where
   behind own =
       late (not (right_data r.id own)) (ltb l.limit (size_with l p (with r own))) (ltb n (size_with l p (with r own)))
 
-  behind-late : (own : List ℕ) → Early (behind own) → ⊥
-  behind-late own = late_is (not (right_data r.id own)) (ltb l.limit (size_with l p (with r own))) (ltb n (size_with l p (with r own)))
+  behind_late : (own : List ℕ) → Early (behind own) → ⊥
+  behind_late own = late_is (not (right_data r.id own)) (ltb l.limit (size_with l p (with r own))) (ltb n (size_with l p (with r own)))
 
-  behind-other : (own : List ℕ) → Other (behind own)
-  behind-other own =
+  behind_other : (own : List ℕ) → Other (behind own)
+  behind_other own =
       late_other (not (right_data r.id own)) (ltb l.limit (size_with l p (with r own))) (ltb n (size_with l p (with r own)))
 
-  rules-are : (own : List ℕ) → first_broken (next_rules l n p (item own)) ≡ stage unfit unknown alone open-end wrong (behind own)
+  rules_are : (own : List ℕ) → first_broken (next_rules l n p (item own)) ≡ stage unfit unknown alone open_end wrong (behind own)
   unfolding first_broken next_rules
-  rules-are own = refl
+  rules_are own = refl
 
   -- Of a buffer only the length is asked, so any of that length tells what is decided.
-  decide_is : (own : List ℕ) → (decide_of l n p (with r own)).number ≡ stage unfit unknown alone open-end wrong (behind own)
-  decide_is own = subst Decides (length-replicate n 0) (at_length (replicate n 0)) ∙ rules-are own
+  decide_is : (own : List ℕ) → (decide_of l n p (with r own)).number ≡ stage unfit unknown alone open_end wrong (behind own)
+  decide_is own = subst Decides (length-replicate n 0) (at_length (replicate n 0)) ∙ rules_are own
     where
       Decides : ℕ → Type 0
       Decides m = (decide_of l m p (with r own)).number ≡ first_broken (next_rules l m p (item own))
@@ -140,38 +140,38 @@ module _ (l : Layout) (n : ℕ) (p : BuilderPlace) (r : UnitRequest) where
       at_length : (s : List ℕ) → Decides (length s)
       at_length s = ap (λ (d : Decision). d.number) (decided l s p (with r own)) ∙ next_order l s p (item own)
 
-  pub unbounded-is : unbounded l n p r ≡ stage unfit unknown alone open-end wrong 9
+  pub unbounded_is : unbounded l n p r ≡ stage unfit unknown alone open_end wrong 9
   unfolding unbounded
-  unbounded-is = refl
+  unbounded_is = refl
 
   -- So a decision without own data tells the number where the bounds are bad: what it tells before 9, and else 9.
-  pub unbounded-by : unbounded l n p r ≡ cond (is_early (decide_of l n p (with r [])).number) (decide_of l n p (with r [])).number 9
-  unbounded-by =
-      rw (unbounded-is, decide_is [])
-      (nine_by unfit unknown alone open-end wrong (not (right_data r.id [])) (ltb l.limit (size_with l p (with r [])))
+  pub unbounded_by : unbounded l n p r ≡ cond (is_early (decide_of l n p (with r [])).number) (decide_of l n p (with r [])).number 9
+  unbounded_by =
+      rw (unbounded_is, decide_is [])
+      (nine_by unfit unknown alone open_end wrong (not (right_data r.id [])) (ltb l.limit (size_with l p (with r [])))
       (ltb n (size_with l p (with r []))))
 
   -- Bad bounds are refused.
-  pub unbounded-some : unbounded l n p r ≡ 0 → ⊥
-  unbounded-some z = stage_some unfit unknown alone open-end wrong (sym unbounded-is ∙ z)
+  pub unbounded_some : unbounded l n p r ≡ 0 → ⊥
+  unbounded_some z = stage_some unfit unknown alone open_end wrong (sym unbounded_is ∙ z)
 
   -- At a place that fits neither 2 nor 21 is told of a request.
   module _ (fit : fits l n p ≡ true) where
-    fitting : {next : ℕ} → Other next → Other (stage unfit unknown alone open-end wrong next)
-    fitting {next} o = rw fit (stage_other unknown alone open-end wrong next o)
+    fitting : {next : ℕ} → Other next → Other (stage unfit unknown alone open_end wrong next)
+    fitting {next} o = rw fit (stage_other unknown alone open_end wrong next o)
 
-    pub unbounded-other : Other (unbounded l n p r)
-    unbounded-other = rw unbounded-is (fitting (λ z. omega arith, λ z. omega arith))
+    pub unbounded_other : Other (unbounded l n p r)
+    unbounded_other = rw unbounded_is (fitting (λ z. omega arith, λ z. omega arith))
 
 module _ (l : Layout) (s : List ℕ) (p : BuilderPlace) (r : UnitRequest) where
-  with-is : (own : List ℕ) →
+  with_is : (own : List ℕ) →
       (call_of l s p (with r own)).number
-      ≡ stage (unfit l (length s) p r) (unknown l (length s) p r) (alone l (length s) p r) (open-end l (length s) p r)
+      ≡ stage (unfit l (length s) p r) (unknown l (length s) p r) (alone l (length s) p r) (open_end l (length s) p r)
       (wrong l (length s) p r) (behind l (length s) p r own)
-  with-is own = sym (ap (λ (d : Decision). d.number) (decided l s p (with r own))) ∙ decide_is l (length s) p r own
+  with_is own = sym (ap (λ (d : Decision). d.number) (decided l s p (with r own))) ∙ decide_is l (length s) p r own
 
-  pub with-other : fits l (length s) p ≡ true → (own : List ℕ) → Other (call_of l s p (with r own)).number
-  with-other fit own = rw (with-is own) (fitting l (length s) p r fit (behind-other l (length s) p r own))
+  pub with_other : fits l (length s) p ≡ true → (own : List ℕ) → Other (call_of l s p (with r own)).number
+  with_other fit own = rw (with_is own) (fitting l (length s) p r fit (behind_other l (length s) p r own))
 
   -- Where the bounds are bad: an early number that every text gets, or 9 where none gets one.
   pub either : (unbounded l (length s) p r ≡ 2 → ⊥) →
@@ -179,5 +179,5 @@ module _ (l : Layout) (s : List ℕ) (p : BuilderPlace) (r : UnitRequest) where
       ⊎ (((own : List ℕ) → Early (call_of l s p (with r own)).number → ⊥) × (unbounded l (length s) p r ≡ 9))
   either some =
       let n = length s in
-      sorted (unfit l n p r) (unknown l n p r) (alone l n p r) (open-end l n p r) (wrong l n p r) (λ own. (call_of l s p (with r own)).number)
-      (behind l n p r) with-is (behind-late l n p r) (unbounded l n p r) (unbounded-is l n p r) some
+      sorted (unfit l n p r) (unknown l n p r) (alone l n p r) (open_end l n p r) (wrong l n p r) (λ own. (call_of l s p (with r own)).number)
+      (behind l n p r) with_is (behind_late l n p r) (unbounded l n p r) (unbounded_is l n p r) some

@@ -17,8 +17,8 @@ use Rattle.cdf_batch_spec.specs.declared.UnitRequest.{UnitRequest}
 use Rattle.cdf_batch_spec.specs.Asking.{bounded, with, asked}
 use Rattle.cdf_batch_spec.specs.Batches.{Told}
 use Rattle.cdf_batch_spec.specs.Refusing.{AllBounded, Early, RefusesGood, RefusesEarly, RefusesNine}
-use Rattle.cdf_batch_spec.proofs.Staged.{Other, unbounded-other, with-other, either}
-use Rattle.cdf_batch_spec.proofs.Judging.{refused_none, told_after, judged_after, judged-good, judged-bad, judged-done, goes_on, stops}
+use Rattle.cdf_batch_spec.proofs.Staged.{Other, unbounded_other, with_other, either}
+use Rattle.cdf_batch_spec.proofs.Judging.{refused_none, told_after, judged_after, judged_good, judged_bad, judged_done, goes_on, stops}
 
 module _ (l : Layout) (text : List ℕ) where
   -- The single calls after `a`.
@@ -80,7 +80,7 @@ module _ (l : Layout) (text : List ℕ) where
     by_first : (b : Bool) → eqb (judged_after l text a r).number 0 ≡ b →
         ((answer l a (asked text r)).number ≡ 0 → Ends (answer l a (asked text r)) (suc k) rs) → Ends a k (r ∷ rs)
     by_first true e rest =
-        let d = judged-done l text a r (eqb-true (judged_after l text a r).number 0 e) in
+        let d = judged_done l text a r (eqb-true (judged_after l text a r).number 0 e) in
         further d.0 d.1 (rest d.1)
     by_first false e rest = at_once (eqb-false (judged_after l text a r).number 0 e)
 
@@ -100,28 +100,28 @@ module _ (l : Layout) (text : List ℕ) where
   -- Of one request after calls that are done.
   module _ (a : Reply) (r : UnitRequest) where
     -- Neither 2 nor 21 is told of it.
-    pub judged-other : Fit l a → Other (judged_after l text a r).number
-    judged-other fit = by (bounded text r) refl
+    pub judged_other : Fit l a → Other (judged_after l text a r).number
+    judged_other fit = by (bounded text r) refl
       where
         by : (b : Bool) → bounded text r ≡ b → Other (judged_after l text a r).number
-        by true e = rw (judged-good l text a r e) (with-other l a.buffer a.place r fit _)
-        by false e = rw (judged-bad l text a r e) (unbounded-other l (length a.buffer) a.place r fit)
+        by true e = rw (judged_good l text a r e) (with_other l a.buffer a.place r fit _)
+        by false e = rw (judged_bad l text a r e) (unbounded_other l (length a.buffer) a.place r fit)
 
     abbrev Due : ℕ → Type 0
     Due n = RefusesGood l text a r n ⊎ (RefusesEarly l text a r n ⊎ RefusesNine l text a r n)
 
-    due-bad : (n : ℕ) → bounded text r ≡ false →
+    due_bad : (n : ℕ) → bounded text r ≡ false →
         (Early n × ((own : List ℕ) → (answer l a (with r own)).number ≡ n))
         ⊎ (((own : List ℕ) → Early (answer l a (with r own)).number → ⊥) × (n ≡ 9)) → Due n
-    due-bad n e (inl w) = inr (inl (e, w.0, w.1))
-    due-bad n e (inr w) = inr (inr (e, w.0, w.1))
+    due_bad n e (inl w) = inr (inl (e, w.0, w.1))
+    due_bad n e (inr w) = inr (inr (e, w.0, w.1))
 
     -- Its number is due.
-    pub judged-due : ((judged_after l text a r).number ≡ 2 → ⊥) → Due (judged_after l text a r).number
-    judged-due some = by (bounded text r) refl
+    pub judged_due : ((judged_after l text a r).number ≡ 2 → ⊥) → Due (judged_after l text a r).number
+    judged_due some = by (bounded text r) refl
       where
         by : (b : Bool) → bounded text r ≡ b → Due (judged_after l text a r).number
-        by true e = inl (e, sym (ap (λ (d : Decision). d.number) (judged-good l text a r e)))
+        by true e = inl (e, sym (ap (λ (d : Decision). d.number) (judged_good l text a r e)))
         by false e =
-            let bad = judged-bad l text a r e in
-            rw bad (due-bad _ e (either l a.buffer a.place r (λ z. some (ap (λ (d : Decision). d.number) bad ∙ z))))
+            let bad = judged_bad l text a r e in
+            rw bad (due_bad _ e (either l a.buffer a.place r (λ z. some (ap (λ (d : Decision). d.number) bad ∙ z))))

@@ -22,11 +22,11 @@ use Rattle.cdf_builder_spec.specs.declared.Parts.{Parts}
 use Rattle.cdf_builder_spec.proofs.Fitting.{fitting}
 use Rattle.cdf_builder_spec.proofs.Replying.{unit_size}
 use Rattle.cdf_builder_faults.specs.Parts.{own_fault}
-use Rattle.cdf_builder_decide.proofs.Stages.{unknown, by-faults, allowed, unit_place}
+use Rattle.cdf_builder_decide.proofs.Stages.{unknown, by_faults, allowed, unit_place}
 use Rattle.cdf_builder_decide.proofs.Few.{few}
 use Rattle.cdf_batch_spec.specs.declared.UnitRequest.{UnitRequest}
 use Rattle.cdf_batch_spec.specs.Asking.{bounded, asked, unbounded}
-use Rattle.cdf_batch_spec.proofs.Staged.{unbounded-is}
+use Rattle.cdf_batch_spec.proofs.Staged.{unbounded_is}
 use Rattle.cdf_batch_turn.specs.Passes.{or_else, part, fault_of, crowded, pass_number}
 
 -- Of two numbers the first that is not 0: what is behind it does not matter.
@@ -90,33 +90,33 @@ module _ (l : Layout) (writing : Bool) (n : ℕ) (text : List ℕ) (p : BuilderP
   abbrev behind : ℕ
   behind = cond (crowded l text p r) 2 0
 
-  pub number-unknown : known r.id ≡ false → pass_number l writing n text p r ≡ 6
+  pub number_unknown : known r.id ≡ false → pass_number l writing n text p r ≡ 6
   unfolding pass_number
-  number-unknown e = rw e
+  number_unknown e = rw e
 
-  number-known : known r.id ≡ true → pass_number l writing n text p r ≡ or_else (join_number p.units r.id 0) (or_else fault behind)
+  number_known : known r.id ≡ true → pass_number l writing n text p r ≡ or_else (join_number p.units r.id 0) (or_else fault behind)
   unfolding pass_number
-  number-known e = rw e
+  number_known e = rw e
 
   -- By the number with which it joins, and what is asked then.
   module _ (k : known r.id ≡ true) (j : ℕ) (joins : j ≡ join_number p.units r.id 0) (m : ℕ) (is : m ≡ or_else j fault) where
     due : m ≡ or_else (join_number p.units r.id 0) fault
     due = is ∙ ap (λ (x : ℕ). or_else x fault) joins
 
-    pub number-some : (m ≡ 0 → ⊥) → pass_number l writing n text p r ≡ m
-    number-some some =
-        number-known k ∙ unless (join_number p.units r.id 0) fault behind (λ z. absurd (some (due ∙ z))) ∙ sym due
+    pub number_some : (m ≡ 0 → ⊥) → pass_number l writing n text p r ≡ m
+    number_some some =
+        number_known k ∙ unless (join_number p.units r.id 0) fault behind (λ z. absurd (some (due ∙ z))) ∙ sym due
 
-    pub number-none : m ≡ 0 → pass_number l writing n text p r ≡ behind
-    number-none none =
+    pub number_none : m ≡ 0 → pass_number l writing n text p r ≡ behind
+    number_none none =
         let w = neither (join_number p.units r.id 0) fault (sym due ∙ none) in
-        number-known k ∙ rw (w.0, w.1)
+        number_known k ∙ rw (w.0, w.1)
 
   -- Bad bounds are told alike in both passes.
-  pub number-bad : fits l n p ≡ true → bounded text r ≡ false → pass_number l writing n text p r ≡ unbounded l n p r
+  pub number_bad : fits l n p ≡ true → bounded text r ≡ false → pass_number l writing n text p r ≡ unbounded l n p r
   unfolding pass_number fault_of join_number
-  number-bad f bad =
-      rw (bad, unbounded-is l n p r, f)
+  number_bad f bad =
+      rw (bad, unbounded_is l n p r, f)
       (bad_by (known r.id) (eqb (length (joining r.id p.units)) 0) (not (completed (ending r.id p.units)))
       (action_allowed r.id r.action) (cond (crowded l text p r) 2 0))
 
@@ -139,31 +139,31 @@ module _ (l : Layout) (n : ℕ) (text : List ℕ) (p : BuilderPlace) (r : UnitRe
     low : ltb l.limit p.written ≡ false
     low = le-ltb l.limit p.written (fitting l n p f).limit
 
-    judging-fault : fault_of l false n p.written text r
+    judging_fault : fault_of l false n p.written text r
         ≡ or_else (own_fault r.id r.action (part text r)) (room l n (p.written + length (bytes_for l (asked text r))))
     unfolding fault_of
-    judging-fault = rw (good, low, unit_size l (record { id = r.id; action = r.action; text = part text r }))
+    judging_fault = rw (good, low, unit_size l (record { id = r.id; action = r.action; text = part text r }))
 
-    writing-fault : fault_of l true n p.written text r ≡ 0
+    writing_fault : fault_of l true n p.written text r ≡ 0
     unfolding fault_of
-    writing-fault = rw (good, low)
+    writing_fault = rw (good, low)
 
-    pub number-good : pass_number l false n text p r ≡ number
-    number-good = by (known r.id) refl
+    pub number_good : pass_number l false n text p r ≡ number
+    number_good = by (known r.id) refl
       where
         by : (b : Bool) → known r.id ≡ b → pass_number l false n text p r ≡ number
-        by false e = number-unknown l false n text p r e ∙ sym (unknown l n p _ f e)
+        by false e = number_unknown l false n text p r e ∙ sym (unknown l n p _ f e)
         by true e =
             let due : number ≡ or_else (join_number p.units r.id 0) (fault_of l false n p.written text r)
-            = by-faults l n p _ f e ∙ rw judging-fault in
-            number-known l false n text p r e
+            = by_faults l n p _ f e ∙ rw judging_fault in
+            number_known l false n text p r e
             ∙ unless (join_number p.units r.id 0) (fault_of l false n p.written text r) (cond (crowded l text p r) 2 0)
             (λ z. rw (uncrowded (due ∙ z)))
             ∙ sym due
 
     -- A request that answers 0 is written.
-    pub number-taken : number ≡ 0 → pass_number l true n text p r ≡ 0
-    number-taken z =
+    pub number_taken : number ≡ 0 → pass_number l true n text p r ≡ 0
+    number_taken z =
         let k = (allowed l n p _ z).0 in
-        let joins = (neither (join_number p.units r.id 0) _ (sym (by-faults l n p _ f k) ∙ z)).0 in
-        number-known l true n text p r k ∙ rw (joins, writing-fault, uncrowded z)
+        let joins = (neither (join_number p.units r.id 0) _ (sym (by_faults l n p _ f k) ∙ z)).0 in
+        number_known l true n text p r k ∙ rw (joins, writing_fault, uncrowded z)

@@ -18,10 +18,10 @@ use Rattle.cdf_builder_spec.specs.Calls.{Decision, Reply, call_number, write_of}
 use Rattle.cdf_builder_spec.specs.Slots.{no_begun, units, placed}
 use Rattle.cdf_builder_spec.specs.declared.Begun.{Begun}
 use Rattle.cdf_builder_spec.specs.declared.Parts.{Parts}
-use Rattle.cdf_builder_spec.proofs.Replying.{call-number, call-fit, call-done, bytes_unit}
+use Rattle.cdf_builder_spec.proofs.Replying.{call_number_lem, call_fit, call_done, bytes_unit}
 use Rattle.cdf_builder_runs.specs.Runs.{answer}
 use Rattle.cdf_builder_enter.specs.Entering.{entered_by}
-use Rattle.cdf_builder_enter.proofs.Entered.{entered-is}
+use Rattle.cdf_builder_enter.proofs.Entered.{entered_is}
 use Rattle.cdf_builder_decide.proofs.Stages.{decided, allowed, left_some, unit_place}
 use Rattle.cdf_builder_append.specs.Held.{held}
 use Rattle.cdf_builder_append.proofs.Held.{held_few}
@@ -29,13 +29,13 @@ use Rattle.cdf_builder_calls.proofs.Calling.{id_byte, action_byte}
 use Rattle.cdf_batch_spec.specs.declared.UnitRequest.{UnitRequest}
 use Rattle.cdf_batch_spec.specs.Asking.{bounded, asked, unbounded, judged}
 use Rattle.cdf_batch_spec.specs.Batches.{from}
-use Rattle.cdf_batch_spec.proofs.Staged.{unbounded-some}
+use Rattle.cdf_batch_spec.proofs.Staged.{unbounded_some}
 use Rattle.cdf_batch_spec.proofs.Judging.{judged_is}
 use Rattle.cdf_batch_turn.specs.declared.PlaceNumbers.{PlaceNumbers}
 use Rattle.cdf_batch_turn.specs.declared.Ran.{Ran}
 use Rattle.cdf_batch_turn.specs.Numbers.{viewed, parts_from, numbers_from}
 use Rattle.cdf_batch_turn.specs.Passes.{part, crowded, pass_number, Going, going, put, settled, turn_of}
-use Rattle.cdf_batch_turn.proofs.Steady.{crowded_is, number-bad, number-good, number-taken}
+use Rattle.cdf_batch_turn.proofs.Steady.{crowded_is, number_bad, number_good, number_taken}
 
 and_false : (b : Bool) → (b && false) ≡ false
 and_false true = refl
@@ -57,18 +57,18 @@ module _ (l : Layout) (text : List ℕ) (g : Going) (rank : ℕ) (r : UnitReques
   turn_is = refl
 
   -- After a refusal nothing is done.
-  pub turn-still : (g.number ≡ 0 → ⊥) → turn_of l text g rank r ≡ g
-  turn-still some = turn_is ∙ rw (ne_eqb g.number 0 some)
+  pub turn_still : (g.number ≡ 0 → ⊥) → turn_of l text g rank r ≡ g
+  turn_still some = turn_is ∙ rw (ne_eqb g.number 0 some)
 
   module _ (zero : g.number ≡ 0) where
     turn_by : (m : ℕ) → Number ≡ m → turn_of l text g rank r ≡ settled l text g rank r m
     turn_by m e = turn_is ∙ rw (zero, e)
 
-    pub turn-refused : (m : ℕ) → Number ≡ m → (m ≡ 0 → ⊥) →
+    pub turn_refused : (m : ℕ) → Number ≡ m → (m ≡ 0 → ⊥) →
         turn_of l text g rank r ≡ record { writing = g.writing; number = m; rank = rank; place = g.place; buffer = g.buffer }
-    turn-refused m e some = turn_by m e ∙ rw (ne_eqb m 0 some, and_false g.writing)
+    turn_refused m e some = turn_by m e ∙ rw (ne_eqb m 0 some, and_false g.writing)
 
-    pub turn-done : Number ≡ 0 →
+    pub turn_done : Number ≡ 0 →
         turn_of l text g rank r
         ≡ record {
           writing = g.writing;
@@ -77,7 +77,7 @@ module _ (l : Layout) (text : List ℕ) (g : Going) (rank : ℕ) (r : UnitReques
           place = grown l g.place (asked text r);
           buffer = cond g.writing (put l text g r) g.buffer;
         }
-    turn-done e = turn_by 0 e ∙ rw (and_true g.writing)
+    turn_done e = turn_by 0 e ∙ rw (and_true g.writing)
 
     -- At a place that fits the first pass judges,
     abbrev d : Decision
@@ -89,38 +89,38 @@ module _ (l : Layout) (text : List ℕ) (g : Going) (rank : ℕ) (r : UnitReques
     abbrev judged_first : ℕ
     judged_first = pass_number l false n text g.place r
 
-    pub turn-judges : fits l n g.place ≡ true → g.writing ≡ false → turn_of l text g rank r ≡ tells d.number d.place
-    turn-judges f w = turn_is ∙ rw (zero, w) (by (bounded text r) refl)
+    pub turn_judges : fits l n g.place ≡ true → g.writing ≡ false → turn_of l text g rank r ≡ tells d.number d.place
+    turn_judges f w = turn_is ∙ rw (zero, w) (by (bounded text r) refl)
       where
         by : (b : Bool) → bounded text r ≡ b →
             tells judged_first (cond (eqb judged_first 0) (grown l g.place (asked text r)) g.place) ≡ tells d.number d.place
         by true e =
-            rw (number-good l n text g.place r e f, judged_is l n text g.place r, e, decided l n g.place (asked text r) _ refl)
+            rw (number_good l n text g.place r e f, judged_is l n text g.place r, e, decided l n g.place (asked text r) _ refl)
         by false e =
             rw (
-              number-bad l false n text g.place r f e,
+              number_bad l false n text g.place r f e,
               judged_is l n text g.place r,
               e,
-              ne_eqb (unbounded l n g.place r) 0 (unbounded-some l n g.place r),
+              ne_eqb (unbounded l n g.place r) 0 (unbounded_some l n g.place r),
             )
 
     -- and where a call answers 0 the second makes it.
     abbrev reply : Reply
     reply = answer l (from g.place g.buffer) (asked text r)
 
-    pub turn-calls : bounded text r ≡ true → reply.number ≡ 0 → g.writing ≡ true →
+    pub turn_calls : bounded text r ≡ true → reply.number ≡ 0 → g.writing ≡ true →
         turn_of l text g rank r ≡ record { writing = true; number = reply.number; rank = 0; place = reply.place; buffer = reply.buffer }
-    turn-calls good done w =
-        let call : call_number l n g.place (asked text r) ≡ 0 = sym (call-number l g.buffer g.place (asked text r)) ∙ done in
-        let f = call-fit l n g.place (asked text r) call in
+    turn_calls good done w =
+        let call : call_number l n g.place (asked text r) ≡ 0 = sym (call_number_lem l g.buffer g.place (asked text r)) ∙ done in
+        let f = call_fit l n g.place (asked text r) call in
         let bytes = allowed l n g.place _ call in
-        let number : Number ≡ 0 = rw w (number-taken l n text g.place r good f call) in
-        turn-done number
+        let number : Number ≡ 0 = rw w (number_taken l n text g.place r good f call) in
+        turn_done number
         ∙ rw (
           w,
           id_byte r.id bytes.0,
           action_byte r.id r.action bytes.0 bytes.1,
-          call-done l g.buffer g.place (asked text r) done,
+          call_done l g.buffer g.place (asked text r) done,
           bytes_unit l (record { id = r.id; action = r.action; text = part text r }),
         )
 
@@ -141,7 +141,7 @@ module _ (text s : List ℕ) (ran : Ran) (rank : ℕ) (r : UnitRequest) (zero : 
   pub refused : (m : ℕ) → told ≡ m → (m ≡ 0 → ⊥) →
       going (record { writing = ran.writing; number = m; rank = rank; place = ran.place }) s ≡ turn_of l₁ text (going ran s) rank r
   refused m e some =
-      ap (λ (x : Parts). refusing x) (sym parts) ∙ sym (turn-refused l₁ text (here p) rank r zero m e some) ∙ there
+      ap (λ (x : Parts). refusing x) (sym parts) ∙ sym (turn_refused l₁ text (here p) rank r zero m e some) ∙ there
     where
       refusing : Parts → Going
       refusing x = record { writing = ran.writing; number = m; rank = rank; place = placed x; buffer = s }
@@ -171,15 +171,15 @@ module _ (text s : List ℕ) (ran : Ran) (rank : ℕ) (r : UnitRequest) (zero : 
 
       grew : placed after ≡ due
       grew =
-          ap placed entered ∙ entered-is p count top (p.written + size) first slot
+          ap placed entered ∙ entered_is p count top (p.written + size) first slot
           ∙ sym (unit_place l₁ 0 p count top r.id left r.action (part text r) size sized first is)
 
-      open-slots : crowded l₁ text (placed p) r ≡ false
-      open-slots = sym (crowded_is l₁ text p r count top left first is) ∙ few
+      open_slots : crowded l₁ text (placed p) r ≡ false
+      open_slots = sym (crowded_is l₁ text p r count top left first is) ∙ few
 
       four : after.count ≤ 4
       four =
-          let most = ltb-false 4 (length due.units) open-slots in
+          let most = ltb-false 4 (length due.units) open_slots in
           let counted = length_held no_begun after.count after.top after.o1 after.o2 after.o3 in
           omega (arith, most, counted, ap (λ (q : BuilderPlace). length q.units) grew)
 
@@ -195,4 +195,4 @@ module _ (text s : List ℕ) (ran : Ran) (rank : ℕ) (r : UnitRequest) (zero : 
       built number place numbers t e =
           ap (λ (x : PlaceNumbers). ends (viewed x) t) numbers ∙ ap (λ (q : BuilderPlace). ends q t) grew
           ∙ ap (ends due) (e ∙ ap wrote (held_few after four ∙ grew))
-          ∙ sym (turn-done l₁ text (here p) rank r zero (number ∙ rw open-slots)) ∙ there
+          ∙ sym (turn_done l₁ text (here p) rank r zero (number ∙ rw open_slots)) ∙ there

@@ -13,20 +13,20 @@ use Rattle.cdf_builder_spec.specs.Place.{BuilderPlace, fits}
 use Rattle.cdf_builder_spec.specs.Requests.{Request}
 use Rattle.cdf_builder_spec.specs.Calls.{Reply}
 use Rattle.cdf_builder_runs.specs.Runs.{answer, run, AllDone}
-use Rattle.cdf_builder_runs.proofs.Answers.{first_done, answer-length, answer-fits}
+use Rattle.cdf_builder_runs.proofs.Answers.{first_done, answer_length, answer_fits}
 use Rattle.cdf_batch_spec.specs.declared.UnitRequest.{UnitRequest}
 use Rattle.cdf_batch_spec.specs.Asking.{asked, judged}
 use Rattle.cdf_batch_spec.specs.Batches.{Told, first_refused, told_of, Outcome, from, single_calls, batch_of}
 use Rattle.cdf_batch_spec.specs.Refusing.{AllBounded}
-use Rattle.cdf_batch_spec.proofs.Judging.{refused_is, refused_none, judged-good, judged-done}
+use Rattle.cdf_batch_spec.proofs.Judging.{refused_is, refused_none, judged_good, judged_done}
 use Rattle.cdf_batch_spec.proofs.Walking.{calls}
-use Rattle.cdf_batch_spec.proofs.Proved.{told-unfit, told-many, told_first, batch-is, number_is, built, singly}
+use Rattle.cdf_batch_spec.proofs.Proved.{told_unfit, told_many, told_first, batch_is, number_is, built, singly}
 use Rattle.cdf_batch_turn.specs.declared.PlaceNumbers.{PlaceNumbers}
 use Rattle.cdf_batch_turn.specs.declared.Batched.{Batched}
 use Rattle.cdf_batch_turn.specs.declared.Ran.{Ran}
 use Rattle.cdf_batch_turn.specs.Numbers.{viewed, outcome_of}
 use Rattle.cdf_batch_turn.specs.Passes.{Going, going, turn_of, pass_of, begun_number, begun_of, second_of, batched_of}
-use Rattle.cdf_batch_turn.proofs.Turning.{turn-still, tells, turn-judges, turn-calls}
+use Rattle.cdf_batch_turn.proofs.Turning.{turn_still, tells, turn_judges, turn_calls}
 
 -- Of calls that are all done the last is.
 last_done : (l : Layout) (a : Reply) (rs : List Request) → AllDone l a rs → (run l a rs).number ≡ 0
@@ -38,20 +38,20 @@ abbrev told_by : Going → Told
 told_by g = record { number = g.number; rank = g.rank }
 
 module _ (l : Layout) (text : List ℕ) where
-  pub pass-cons : (g : Going) (k : ℕ) (r : UnitRequest) (rs : List UnitRequest) →
+  pub pass_cons : (g : Going) (k : ℕ) (r : UnitRequest) (rs : List UnitRequest) →
       pass_of l text g k (r ∷ rs) ≡ pass_of l text (turn_of l text g k r) (suc k) rs
   unfolding pass_of
-  pass-cons g k r rs = refl
+  pass_cons g k r rs = refl
 
-  pub pass-none : (g : Going) (k : ℕ) → pass_of l text g k [] ≡ g
+  pub pass_none : (g : Going) (k : ℕ) → pass_of l text g k [] ≡ g
   unfolding pass_of
-  pass-none g k = refl
+  pass_none g k = refl
 
   -- After a refusal a pass does nothing.
-  pass-still : (g : Going) → (g.number ≡ 0 → ⊥) → (k : ℕ) (rs : List UnitRequest) → pass_of l text g k rs ≡ g
-  pass-still g some k [] = pass-none g k
-  pass-still g some k (r ∷ rs) =
-      pass-cons g k r rs ∙ ap (λ (x : Going). pass_of l text x (suc k) rs) (turn-still l text g k r some) ∙ pass-still g some (suc k) rs
+  pass_still : (g : Going) → (g.number ≡ 0 → ⊥) → (k : ℕ) (rs : List UnitRequest) → pass_of l text g k rs ≡ g
+  pass_still g some k [] = pass_none g k
+  pass_still g some k (r ∷ rs) =
+      pass_cons g k r rs ∙ ap (λ (x : Going). pass_of l text x (suc k) rs) (turn_still l text g k r some) ∙ pass_still g some (suc k) rs
 
   -- The first pass, where it has refused none.
   abbrev deciding : BuilderPlace → List ℕ → Going
@@ -66,15 +66,15 @@ module _ (l : Layout) (text : List ℕ) where
     taken_fits : (p : BuilderPlace) (r : UnitRequest) → (judged l (length s) text p r).number ≡ 0 →
         fits l (length s) (judged l (length s) text p r).place ≡ true
     taken_fits p r z =
-        let d = judged-done l text (from p s) r z in
-        let fit = rw (answer-length l (from p s) (asked text r)) at (answer-fits l (from p s) (asked text r) d.1) in
-        rw (judged-good l text (from p s) r d.0) fit
+        let d = judged_done l text (from p s) r z in
+        let fit = rw (answer_length l (from p s) (asked text r)) at (answer_fits l (from p s) (asked text r) d.1) in
+        rw (judged_good l text (from p s) r d.0) fit
 
-    first-pass : (p : BuilderPlace) → fits l (length s) p ≡ true → (rs : List UnitRequest) (k : ℕ) →
+    first_pass : (p : BuilderPlace) → fits l (length s) p ≡ true → (rs : List UnitRequest) (k : ℕ) →
         Tells (pass_of l text (deciding p s) k rs) (first_refused l (length s) text p k rs) s
-    first-pass p f [] k = rw (pass-none (deciding p s) k, refused_none l (length s) text p k) (refl, refl)
-    first-pass p f (r ∷ rs) k =
-        by (eqb (judged l (length s) text p r).number 0) refl (λ q e. first-pass q e rs (suc k))
+    first_pass p f [] k = rw (pass_none (deciding p s) k, refused_none l (length s) text p k) (refl, refl)
+    first_pass p f (r ∷ rs) k =
+        by (eqb (judged l (length s) text p r).number 0) refl (λ q e. first_pass q e rs (suc k))
       where
         by : (b : Bool) → eqb (judged l (length s) text p r).number 0 ≡ b →
             ((q : BuilderPlace) → fits l (length s) q ≡ true →
@@ -83,16 +83,16 @@ module _ (l : Layout) (text : List ℕ) where
         by true e rest =
             let zero = eqb-true (judged l (length s) text p r).number 0 e in
             rw (
-              pass-cons (deciding p s) k r rs,
-              turn-judges l text (deciding p s) k r refl f refl,
+              pass_cons (deciding p s) k r rs,
+              turn_judges l text (deciding p s) k r refl f refl,
               refused_is l (length s) text p k r rs,
               zero,
             ) (rest (judged l (length s) text p r).place (taken_fits p r zero))
         by false e rest =
             rw (
-              pass-cons (deciding p s) k r rs,
-              turn-judges l text (deciding p s) k r refl f refl,
-              pass-still (tells l text (deciding p s) k r refl (judged l (length s) text p r).number (judged l (length s) text p r).place)
+              pass_cons (deciding p s) k r rs,
+              turn_judges l text (deciding p s) k r refl f refl,
+              pass_still (tells l text (deciding p s) k r refl (judged l (length s) text p r).number (judged l (length s) text p r).place)
                   (eqb-false (judged l (length s) text p r).number 0 e) (suc k) rs,
               refused_is l (length s) text p k r rs,
               e,
@@ -103,15 +103,15 @@ module _ (l : Layout) (text : List ℕ) where
   writing a = record { writing = true; number = a.number; rank = 0; place = a.place; buffer = a.buffer }
 
   -- It makes the single calls.
-  second-pass : (a : Reply) (rs : List UnitRequest) (k : ℕ) → AllBounded text rs → AllDone l a (calls l text rs) →
+  second_pass : (a : Reply) (rs : List UnitRequest) (k : ℕ) → AllBounded text rs → AllDone l a (calls l text rs) →
       pass_of l text (writing a) k rs ≡ writing (run l a (calls l text rs))
   unfolding run
-  second-pass a [] k b d = pass-none (writing a) k
-  second-pass a (r ∷ rs) k b d =
+  second_pass a [] k b d = pass_none (writing a) k
+  second_pass a (r ∷ rs) k b d =
       let done = first_done l (answer l a (asked text r)) (calls l text rs) d.1 in
-      pass-cons (writing a) k r rs
-      ∙ ap (λ (g : Going). pass_of l text g (suc k) rs) (turn-calls l text (writing a) k r d.0 b.0 done refl)
-      ∙ second-pass (answer l a (asked text r)) rs (suc k) b.1 d.1
+      pass_cons (writing a) k r rs
+      ∙ ap (λ (g : Going). pass_of l text g (suc k) rs) (turn_calls l text (writing a) k r d.0 b.0 done refl)
+      ∙ second_pass (answer l a (asked text r)) rs (suc k) b.1 d.1
 
 -- All that is done with a list: what comes before the passes, the first, what comes between them, the second, and what is told.
 module _ (p : PlaceNumbers) (s text : List ℕ) (rs : List UnitRequest) where
@@ -131,7 +131,7 @@ module _ (p : PlaceNumbers) (s text : List ℕ) (rs : List UnitRequest) where
   -- It begins with a number other than 0, and nothing is done;
   stopped : (n : ℕ) → begun_number p (length s) (length rs) ≡ n → (n ≡ 0 → ⊥) → due ≡ record { number = n; rank = 0 } → Tells l₁ text decides due s
   stopped n is some e =
-      rw (pass-still l₁ text begins (λ z. some (sym is ∙ z)) 0 rs, is, e) (refl, refl)
+      rw (pass_still l₁ text begins (λ z. some (sym is ∙ z)) 0 rs, is, e) (refl, refl)
 
   -- or with 0, and it tells what is due.
   decided : Tells l₁ text decides due s
@@ -139,14 +139,14 @@ module _ (p : PlaceNumbers) (s text : List ℕ) (rs : List UnitRequest) where
     where
       few : (b : Bool) → fits l₁ (length s) (viewed p) ≡ true → ltb 512 (length rs) ≡ b → Tells l₁ text decides due s
       few true e c =
-          stopped 21 (rw (e, c)) (λ z. omega arith) (told-many l₁ s text (viewed p) rs e (ltb-true 512 (length rs) c))
+          stopped 21 (rw (e, c)) (λ z. omega arith) (told_many l₁ s text (viewed p) rs e (ltb-true 512 (length rs) c))
       few false e c =
           let zero : begun_number p (length s) (length rs) ≡ 0 = rw (e, c) in
-          rw (zero, told_first l₁ s text (viewed p) rs e (ltb-false 512 (length rs) c)) (first-pass l₁ text s (viewed p) e rs 0)
+          rw (zero, told_first l₁ s text (viewed p) rs e (ltb-false 512 (length rs) c)) (first_pass l₁ text s (viewed p) e rs 0)
 
       by : (b : Bool) → fits l₁ (length s) (viewed p) ≡ b → Tells l₁ text decides due s
       by true e = few (ltb 512 (length rs)) e refl
-      by false e = stopped 2 (rw e) (λ z. omega arith) (told-unfit l₁ s text (viewed p) rs e)
+      by false e = stopped 2 (rw e) (λ z. omega arith) (told_unfit l₁ s text (viewed p) rs e)
 
   module _ (r1 : Ran) (s1 : List ℕ) (first : going r1 s1 ≡ decides) where
     told : told_by (going r1 s1) ≡ due
@@ -160,10 +160,10 @@ module _ (p : PlaceNumbers) (s text : List ℕ) (rs : List UnitRequest) where
     none some =
         let number = ap (λ (t : Told). t.number) told in
         let other = ne_eqb due.number 0 (λ z. some (number ∙ z)) in
-        ap (λ (t : Told). same-as t) told ∙ sym (batch-is l₁ s text (viewed p) rs ∙ rw other)
+        ap (λ (t : Told). same_as t) told ∙ sym (batch_is l₁ s text (viewed p) rs ∙ rw other)
       where
-        same-as : Told → Outcome
-        same-as t = record { number = t.number; rank = t.rank; place = viewed p; buffer = s }
+        same_as : Told → Outcome
+        same_as t = record { number = t.number; rank = t.rank; place = viewed p; buffer = s }
 
     -- No refusal: the second pass makes the single calls.
     all : r1.number ≡ 0 → (r3 : Ran) (s3 : List ℕ) →
@@ -174,7 +174,7 @@ module _ (p : PlaceNumbers) (s text : List ℕ) (rs : List UnitRequest) where
         = number_is l₁ s text (viewed p) rs ∙ sym (ap (λ (t : Told). t.number) told) ∙ zero in
         let taken = ((built l₁ s text (viewed p) rs).0 z).2 in
         let made : going r3 s3 ≡ writing l₁ text (single_calls l₁ s text (viewed p) rs)
-        = second ∙ rw left (second-pass l₁ text (from (viewed p) s) rs 0 taken.bounds taken.calls) in
+        = second ∙ rw left (second_pass l₁ text (from (viewed p) s) rs 0 taken.bounds taken.calls) in
         let last = last_done l₁ (from (viewed p) s) (calls l₁ text rs) taken.calls in (
           ap (λ (g : Going). g.number) made ∙ last,
           ap (λ (g : Going). outcome g) made ∙ rw last (sym (singly l₁ s text (viewed p) rs z)),
@@ -198,7 +198,7 @@ module _ (p : PlaceNumbers) (s text : List ℕ) (rs : List UnitRequest) where
               let some = eqb-false r1.number 0 e in
               let still : r2 ≡ r1 = between ∙ rw e in
               let same : going r3 s3 ≡ going r1 s1
-              = second ∙ ap (λ (x : Ran). pass_of l₁ text (going x s1) 0 rs) still ∙ pass-still l₁ text (going r1 s1) some 0 rs in
+              = second ∙ ap (λ (x : Ran). pass_of l₁ text (going x s1) 0 rs) still ∙ pass_still l₁ text (going r1 s1) some 0 rs in
               let number = ap (λ (g : Going). g.number) same in
               let rank = ap (λ (g : Going). g.rank) same in
               let buffer : s3 ≡ s = ap (λ (g : Going). g.buffer) same ∙ left in

@@ -17,16 +17,16 @@ module _ (count : ℕ) where
   abbrev slots : ℕ
   slots = cond (leb count 4) count 4
 
-  pub slots-four : 4 ≤ count → slots ≡ 4
-  slots-four many = by (leb count 4) refl
+  pub slots_four : 4 ≤ count → slots ≡ 4
+  slots_four many = by (leb count 4) refl
     where
       by : (b : Bool) → leb count 4 ≡ b → cond b count 4 ≡ 4
       by true e = omega (arith, leb-true count 4 e)
       by false e = refl
 
   -- None is held only where none is open.
-  pub slots-some : (count ≡ 0 → ⊥) → slots ≡ 0 → ⊥
-  slots-some some = by (leb count 4)
+  pub slots_some : (count ≡ 0 → ⊥) → slots ≡ 0 → ⊥
+  slots_some some = by (leb count 4)
     where
       by : (b : Bool) → cond b count 4 ≡ 0 → ⊥
       by true e = some e

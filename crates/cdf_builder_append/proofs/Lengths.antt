@@ -16,7 +16,7 @@ use Rattle.cdf_builder_spec.specs.Slots.{place_of}
 use Rattle.cdf_builder_spec.specs.declared.Begun.{Begun}
 use Rattle.cdf_builder_spec.specs.declared.Parts.{Parts}
 use Rattle.cdf_builder_append.specs.Held.{held}
-use Rattle.cdf_builder_append.proofs.Held.{slots-four, slots-some}
+use Rattle.cdf_builder_append.proofs.Held.{slots_four, slots_some}
 
 module _ (l : Layout) (p : Parts) (s : List ℕ) where
   -- The bytes with the length of an open unit.
@@ -55,7 +55,7 @@ module _ (l : Layout) (p : Parts) (s : List ℕ) where
 
       pub four : 4 ≤ p.count → {c : List ℕ} → c ≡ with p.o3 b → c ≡ Outer
       unfolding lengths held_of around_of
-      four many third = third ∙ rw (slots-four p.count many, second, first)
+      four many third = third ∙ rw (slots_four p.count many, second, first)
 
   abbrev All : List ℕ
   All = lengths l p.written (held p).units s
@@ -67,7 +67,7 @@ module _ (l : Layout) (p : Parts) (s : List ℕ) where
 
   pub all : (p.count ≡ 0 → ⊥) → {t : List ℕ} → t ≡ Outer → with p.top t ≡ All
   unfolding lengths held_of
-  all some {t} e = by (cond (leb p.count 4) p.count 4) (slots-some p.count some) e
+  all some {t} e = by (cond (leb p.count 4) p.count 4) (slots_some p.count some) e
     where
       by : (k : ℕ) → (k ≡ 0 → ⊥) → t ≡ outer k → with p.top t ≡ lengths l p.written (of k).units s
       by zero some e = absurd (some refl)

@@ -22,8 +22,8 @@ use Rattle.cdf_builder_spec.specs.Slots.{placed}
 use Rattle.cdf_builder_spec.specs.declared.Parts.{Parts}
 use Rattle.cdf_builder_decide.specs.Grown.{decision_of}
 use Rattle.cdf_builder_decide.specs.declared.Decided.{Decided}
-use Rattle.cdf_builder_decide.proofs.Stages.{decided-done, allowed}
-use Rattle.cdf_builder_decide.proofs.Few.{few-after}
+use Rattle.cdf_builder_decide.proofs.Stages.{decided_done, allowed}
+use Rattle.cdf_builder_decide.proofs.Few.{few_after}
 use Rattle.cdf_builder_append.specs.Held.{held}
 use Rattle.cdf_builder_append.proofs.Held.{held_few}
 use Rattle.cdf_builder_calls.specs.Replies.{reply_of}
@@ -58,7 +58,7 @@ module _ (l : Layout) (s : List ℕ) (p : Parts) (r : Request) (b : Decided) (d 
   pub writing : b.number ≡ 0 → (t : List ℕ) → t ≡ write_of l p.written (held b.place) (bytes_for l r) s → reply_of b t ≡ call_of l s (placed p) r
   unfolding call_of
   writing none t e =
-      let all = held_few b.place (few-after l (length s) p r b d none) in
+      let all = held_few b.place (few_after l (length s) p r b d none) in
       let wrote = e ∙ ap (λ (q : BuilderPlace). write_of l p.written q (bytes_for l r) s) all in
       let here : reply_of b t ≡ by (decision_of b) = rw (eq-eqb b.number 0 none, wrote) in
       here ∙ ap by d
@@ -67,7 +67,7 @@ module _ (l : Layout) (s : List ℕ) (p : Parts) (r : Request) (b : Decided) (d 
 pub unit_bytes_lem : (l : Layout) (n : ℕ) (p : BuilderPlace) (u : Item) (b : Decided) → decision_of b ≡ decide_of l n p (unit u) → b.number ≡ 0 →
     unit_bytes l (u.id % 256) (u.action % 256) u.text [] ≡ bytes_for l (unit u)
 unit_bytes_lem l n p u b d e =
-    let w = allowed l n p u (decided-done l n p (unit u) b d e) in
+    let w = allowed l n p u (decided_done l n p (unit u) b d e) in
     rw (id_byte u.id w.0, action_byte u.id u.action w.0 w.1) (sym (bytes_unit l u))
 
 module _ (l : Layout) (s : List ℕ) (id : ℕ) where
@@ -75,15 +75,15 @@ module _ (l : Layout) (s : List ℕ) (id : ℕ) where
   unfolding start_of
   refused k e some = rw (e, ne_eqb k 0 some)
 
-  pub start-unknown : known id ≡ false → start_of l s id ≡ record { number = 6; place = no_builder_place; buffer = s }
+  pub start_unknown : known id ≡ false → start_of l s id ≡ record { number = 6; place = no_builder_place; buffer = s }
   unfolding start_number
-  start-unknown k = refused 6 (rw k) (λ e. omega arith)
+  start_unknown k = refused 6 (rw k) (λ e. omega arith)
 
-  pub start-inner : known id ≡ true → root_kind id ≡ false → start_of l s id ≡ record { number = 7; place = no_builder_place; buffer = s }
+  pub start_inner : known id ≡ true → root_kind id ≡ false → start_of l s id ≡ record { number = 7; place = no_builder_place; buffer = s }
   unfolding start_number
-  start-inner k r = refused 7 (rw (k, r)) (λ e. omega arith)
+  start_inner k r = refused 7 (rw (k, r)) (λ e. omega arith)
 
-  pub start-full : known id ≡ true → root_kind id ≡ true → length s < prefix_of l →
+  pub start_full : known id ≡ true → root_kind id ≡ true → length s < prefix_of l →
       start_of l s id ≡ record { number = 12; place = no_builder_place; buffer = s }
   unfolding start_number
-  start-full k r h = refused 12 (rw (k, r, lt-ltb (length s) (prefix_of l) h)) (λ e. omega arith)
+  start_full k r h = refused 12 (rw (k, r, lt-ltb (length s) (prefix_of l) h)) (λ e. omega arith)

@@ -17,7 +17,7 @@ use Rattle.cdf_builder_decide.specs.Grown.{decision_of}
 use Rattle.cdf_builder_decide.specs.Grown.{Growable}
 use Rattle.cdf_builder_spec.specs.declared.Parts.{Parts}
 use Rattle.cdf_builder_decide.specs.declared.Decided.{Decided}
-use Rattle.cdf_builder_decide.proofs.Stages.{decided, decided-done, Grows}
+use Rattle.cdf_builder_decide.proofs.Stages.{decided, decided_done, Grows}
 
 pub few : (l : Layout) (n : ℕ) (p : BuilderPlace) (r : Request) → call_number l n p r ≡ 0 → length (grown l p r).units ≤ 4
 few l n p r e = proved.four l n (grown l p r) (next_fits l n p r e)
@@ -27,9 +27,9 @@ count_is : (p : Parts) → length (placed p).units ≡ p.count
 count_is p = length_held no_begun p.count p.top p.o1 p.o2 p.o3
 
 module _ (l : Layout) (n : ℕ) (p : Parts) (r : Request) where
-  pub few-after : (b : Decided) → decision_of b ≡ decide_of l n (placed p) r → b.number ≡ 0 → b.place.count ≤ 4
-  few-after b d e =
-      let number = decided-done l n (placed p) r b d e in
+  pub few_after : (b : Decided) → decision_of b ≡ decide_of l n (placed p) r → b.number ≡ 0 → b.place.count ≤ 4
+  few_after b d e =
+      let number = decided_done l n (placed p) r b d e in
       let place = ap (λ (x : Decision). x.place) (d ∙ decided l n (placed p) r 0 number) in
       omega (arith, few l n (placed p) r number, ap (λ (x : BuilderPlace). length x.units) place, count_is b.place)
 

@@ -23,7 +23,7 @@ use Rattle.cdf_builder_spec.specs.Calls.{Decision, room, call_number, decide_of}
 use Rattle.cdf_builder_spec.specs.declared.Begun.{Begun}
 use Rattle.cdf_builder_spec.proofs.Fitting.{fitting}
 use Rattle.cdf_builder_spec.proofs.Joining.{joined_is}
-use Rattle.cdf_builder_spec.proofs.Replying.{call-fitting, unit_size}
+use Rattle.cdf_builder_spec.proofs.Replying.{call_fitting, unit_size}
 use Rattle.cdf_builder_faults.specs.Parts.{own_fault, group_id}
 use Rattle.cdf_reader_spec.proofs.Counted.{length_held}
 use Rattle.cdf_builder_spec.specs.Slots.{no_begun, units, placed}
@@ -56,8 +56,8 @@ module _ (l : Layout) (n : ℕ) (p : BuilderPlace) (r : Request) where
   declined k some e = decided k e ∙ rw (ne_eqb k 0 some)
 
   -- What is answered with 0 was decided with 0.
-  pub decided-done : (b : Decided) → decision_of b ≡ decide_of l n p r → b.number ≡ 0 → call_number l n p r ≡ 0
-  decided-done b d e = sym (ap (λ (x : Decision). x.number) (d ∙ decided _ refl)) ∙ e
+  pub decided_done : (b : Decided) → decision_of b ≡ decide_of l n p r → b.number ≡ 0 → call_number l n p r ≡ 0
+  decided_done b d e = sym (ap (λ (x : Decision). x.number) (d ∙ decided _ refl)) ∙ e
 
   pub unfit : fits l n p ≡ false → call_number l n p r ≡ 2
   unfolding call_number
@@ -70,28 +70,28 @@ module _ (l : Layout) (n : ℕ) (p : BuilderPlace) (u : Item) (f : fits l n p �
 
   pub unknown : known u.id ≡ false → Number ≡ 6
   unfolding refused
-  unknown e = call-fitting l n p (unit u) f ∙ rw e
+  unknown e = call_fitting l n p (unit u) f ∙ rw e
 
   abbrev Room : ℕ
   Room = room l n (p.written + length (bytes_for l (unit u)))
 
   module _ (k : known u.id ≡ true) where
-    pub by-faults : Number ≡ or_else (join_number p.units u.id 0) (or_else (own_fault u.id u.action u.text) Room)
+    pub by_faults : Number ≡ or_else (join_number p.units u.id 0) (or_else (own_fault u.id u.action u.text) Room)
     unfolding refused own_fault
-    by-faults =
-        call-fitting l n p (unit u) f ∙ rw k (joined_next p.units u.id _)
+    by_faults =
+        call_fitting l n p (unit u) f ∙ rw k (joined_next p.units u.id _)
         ∙ ap (or_else (join_number p.units u.id 0))
         (two_tests 8 9 Room refl refl (not (action_allowed u.id u.action)) (not (right_data u.id u.text)))
 
-    pub not-joined : (m : ℕ) → m ≡ join_number p.units u.id 0 → (m ≡ 0 → ⊥) → Number ≡ m
-    not-joined m is some = by-faults ∙ rw (← is, ne_eqb m 0 some)
+    pub not_joined : (m : ℕ) → m ≡ join_number p.units u.id 0 → (m ≡ 0 → ⊥) → Number ≡ m
+    not_joined m is some = by_faults ∙ rw (← is, ne_eqb m 0 some)
 
     module _ (j : join_number p.units u.id 0 ≡ 0) where
       pub wrong : (m : ℕ) → m ≡ own_fault u.id u.action u.text → (m ≡ 0 → ⊥) → Number ≡ m
-      wrong m is some = by-faults ∙ rw (j, ← is, ne_eqb m 0 some)
+      wrong m is some = by_faults ∙ rw (j, ← is, ne_eqb m 0 some)
 
       pub right : own_fault u.id u.action u.text ≡ 0 → Number ≡ Room
-      right e = by-faults ∙ rw (j, e)
+      right e = by_faults ∙ rw (j, e)
 
 -- ADD_STREAM.
 group_some : (l : Layout) (g : List ℕ) → (group_id l g ≡ 0 → ⊥) → (accepted_group l g ≡ true) × (group_id l g ≡ id_at l g)
@@ -114,22 +114,22 @@ module _ (l : Layout) (n : ℕ) (p : BuilderPlace) (g : List ℕ) (f : fits l n 
   abbrev GroupNumber : ℕ
   GroupNumber = call_number l n p (group g)
 
-  pub no-group : group_id l g ≡ 0 → GroupNumber ≡ 14
+  pub no_group : group_id l g ≡ 0 → GroupNumber ≡ 14
   unfolding refused
-  no-group e = call-fitting l n p (group g) f ∙ rw (group_none l g e)
+  no_group e = call_fitting l n p (group g) f ∙ rw (group_none l g e)
 
   module _ (id : ℕ) (is : id ≡ group_id l g) (some : id ≡ 0 → ⊥) where
-    by-joined : GroupNumber ≡ or_else (join_number p.units id 0) (room l n (p.written + length g))
+    by_joined : GroupNumber ≡ or_else (join_number p.units id 0) (room l n (p.written + length g))
     unfolding refused bytes_for
-    by-joined =
+    by_joined =
         let w = group_some l g (λ z. some (is ∙ z)) in
-        call-fitting l n p (group g) f ∙ rw (w.0, ← w.1, ← is) (joined_next p.units id _)
+        call_fitting l n p (group g) f ∙ rw (w.0, ← w.1, ← is) (joined_next p.units id _)
 
-    pub group-not-joined : (m : ℕ) → m ≡ join_number p.units id 0 → (m ≡ 0 → ⊥) → GroupNumber ≡ m
-    group-not-joined m e other = by-joined ∙ rw (← e, ne_eqb m 0 other)
+    pub group_not_joined : (m : ℕ) → m ≡ join_number p.units id 0 → (m ≡ 0 → ⊥) → GroupNumber ≡ m
+    group_not_joined m e other = by_joined ∙ rw (← e, ne_eqb m 0 other)
 
-    pub group-joined : join_number p.units id 0 ≡ 0 → GroupNumber ≡ room l n (p.written + length g)
-    group-joined e = by-joined ∙ rw e
+    pub group_joined : join_number p.units id 0 ≡ 0 → GroupNumber ≡ room l n (p.written + length g)
+    group_joined e = by_joined ∙ rw e
 
 entered_as : (b : Bool) (os : List Begun) → cond (not b) os [] ≡ cond b [] os
 entered_as true os = refl
@@ -185,7 +185,7 @@ module _ (l : Layout) (n : ℕ) (p : Parts) (count : ℕ) (top : Begun) where
         let w = group_some l g (λ z. some (is ∙ z)) in
         record {
           sum = sum;
-          number = group-joined l n (placed p) g f id is some j;
+          number = group_joined l n (placed p) g f id is some j;
           place = rw (← w.1, ← is, ← left);
           some = left_some id left j;
         }

@@ -19,9 +19,9 @@ module _ (p : Parts) (count : ℕ) (top : Begun) (written first : ℕ) where
   due none count =
       record { written = written; units = cond none [] (record { state = first; start = p.written } ∷ []) ++ units count top p.o1 p.o2 p.o3 }
 
-  pub entered-is : ((first ≡ 0 → ⊥) → (1 ≤ count) × (count ≤ 3)) → placed (entered_by p count top written first) ≡ due (eqb first 0) count
+  pub entered_is : ((first ≡ 0 → ⊥) → (1 ≤ count) × (count ≤ 3)) → placed (entered_by p count top written first) ≡ due (eqb first 0) count
   unfolding around_of held_of
-  entered-is slot = by (eqb first 0) refl
+  entered_is slot = by (eqb first 0) refl
     where
       third : (first ≡ 0 → ⊥) → (count ≡ 1 → ⊥) → (count ≡ 2 → ⊥) → count ≡ 3
       third some a b = let w = slot some in omega (arith, w.0, w.1, a, b)

@@ -46,51 +46,51 @@ fault_is id action text = by (action_allowed id action) (own_data id text)
     by true (Broken k) = refl
 
 module _ (id action : ℕ) (text : List ℕ) where
-  pub fault-action : body_of id action text ≡ Action → own_fault id action text ≡ 8
+  pub fault_action : body_of id action text ≡ Action → own_fault id action text ≡ 8
   unfolding fault_by
-  fault-action e = fault_is id action text ∙ rw e
+  fault_action e = fault_is id action text ∙ rw e
 
-  pub fault-data : {k : ℕ} → body_of id action text ≡ Data k → own_fault id action text ≡ 9
+  pub fault_data : {k : ℕ} → body_of id action text ≡ Data k → own_fault id action text ≡ 9
   unfolding fault_by
-  fault-data e = fault_is id action text ∙ rw e
+  fault_data e = fault_is id action text ∙ rw e
 
   module _ {k : ℕ} (e : body_of id action text ≡ Whole k) where
-    pub fault-leaf : opens id ≡ false → own_fault id action text ≡ 0
+    pub fault_leaf : opens id ≡ false → own_fault id action text ≡ 0
     unfolding fault_by
-    fault-leaf shut = fault_is id action text ∙ rw (e, shut)
+    fault_leaf shut = fault_is id action text ∙ rw (e, shut)
 
-    pub fault-whole : k ≡ length text → own_fault id action text ≡ 0
+    pub fault_whole : k ≡ length text → own_fault id action text ≡ 0
     unfolding fault_by
-    fault-whole all = fault_is id action text ∙ rw (e, eq-eqb k (length text) all, or-true)
+    fault_whole all = fault_is id action text ∙ rw (e, eq-eqb k (length text) all, or-true)
 
-    pub fault-more : opens id ≡ true → (k ≡ length text → ⊥) → own_fault id action text ≡ 9
+    pub fault_more : opens id ≡ true → (k ≡ length text → ⊥) → own_fault id action text ≡ 9
     unfolding fault_by
-    fault-more opening more = fault_is id action text ∙ rw (e, opening, ne_eqb k (length text) more)
+    fault_more opening more = fault_is id action text ∙ rw (e, opening, ne_eqb k (length text) more)
 
 module _ (l : Layout) (g : List ℕ) where
-  pub group-other : is_group (id_at l g) ≡ false → group_id l g ≡ 0
+  pub group_other : is_group (id_at l g) ≡ false → group_id l g ≡ 0
   unfolding group_id accepted_group
-  group-other e = rw (e, and-false)
+  group_other e = rw (e, and-false)
 
   -- Bytes too few for a prefix are no group.
-  pub group-short : length g < prefix_of l → group_id l g ≡ 0
+  pub group_short : length g < prefix_of l → group_id l g ≡ 0
   unfolding id_at
-  group-short h = group-other (rw (get_or-eq_default g 0 {n = prefix_of l - 1} (omega arith)))
+  group_short h = group_other (rw (get_or-eq_default g 0 {n = prefix_of l - 1} (omega arith)))
 
-  pub group-accepted : (n : ℕ) → as_answer (Accepted n) ≡ check_of l g → is_group (id_at l g) ≡ true → group_id l g ≡ id_at l g
+  pub group_accepted : (n : ℕ) → as_answer (Accepted n) ≡ check_of l g → is_group (id_at l g) ≡ true → group_id l g ≡ id_at l g
   unfolding group_id accepted_group as_answer
-  group-accepted n e f = rw (← e, f)
+  group_accepted n e f = rw (← e, f)
 
   -- A fault's number is not 0.
-  refused-some : {n at : ℕ} → Refused n at ≡ checked_of (listing l g) → n ≡ 0 → ⊥
+  refused_some : {n at : ℕ} → Refused n at ≡ checked_of (listing l g) → n ≡ 0 → ⊥
   unfolding checked_of checked_by
-  refused-some {n} {at} e z = by (listing l g).end refl e
+  refused_some {n} {at} e z = by (listing l g).end refl e
     where
       by : (end : End) → (listing l g).end ≡ end → Refused n at ≡ checked_by (length (listing l g).units) end → ⊥
       by unfinished f e = let m : n ≡ 99 = cc in omega arith
       by ended f e = clash cc
       by (fault k p) f e = let m : n ≡ k = cc in let w = proved.numbered l g f in omega (arith, w.0)
 
-  pub group-refused : {n at : ℕ} → Refused n at ≡ checked_of (listing l g) → as_answer (Refused n at) ≡ check_of l g → group_id l g ≡ 0
+  pub group_refused : {n at : ℕ} → Refused n at ≡ checked_of (listing l g) → as_answer (Refused n at) ≡ check_of l g → group_id l g ≡ 0
   unfolding group_id accepted_group as_answer
-  group-refused {n} is e = rw (← e, ne_eqb n 0 (refused-some is))
+  group_refused {n} is e = rw (← e, ne_eqb n 0 (refused_some is))

@@ -23,12 +23,12 @@ use Rattle.cdf_builder_spec.specs.Requests.{Request, unit, group, id_of, joining
 use Rattle.cdf_builder_spec.specs.Calls.{Reply}
 use Rattle.cdf_builder_spec.specs.declared.Begun.{Begun}
 use Rattle.cdf_builder_spec.proofs.Fitting.{Kinds, fitting}
-use Rattle.cdf_builder_spec.proofs.Replying.{call-number, call-fitting}
+use Rattle.cdf_builder_spec.proofs.Replying.{call_number_lem, call_fitting}
 use Rattle.cdf_builder_runs.specs.Runs.{answer}
 use Rattle.cdf_builder_groups.specs.Claims.{NoCall}
-use Rattle.cdf_builder_runs.proofs.Answers.{answer-called, answer-fits, answer-place}
+use Rattle.cdf_builder_runs.proofs.Answers.{answer_called, answer_fits, answer_place}
 use Rattle.cdf_builder_runs.proofs.Passed.{group_rules, group_kind}
-use Rattle.cdf_builder_runs.proofs.Taken.{units-group}
+use Rattle.cdf_builder_runs.proofs.Taken.{units_group}
 
 -- A group leads to one state of a stream,
 group_state : (state id : ℕ) → Among id (er_group ∷ file_group ∷ []) → (admit state id ≡ 0 → ⊥) → admit state id ≡ stream_group
@@ -87,16 +87,16 @@ module _ (l : Layout) (a : Reply) (g : List ℕ) (zero : (answer l a (group g)).
   next = answer l a (group g)
 
   next_fits : fits l (length next.buffer) next.place ≡ true
-  next_fits = answer-fits l a (group g) zero
+  next_fits = answer_fits l a (group g) zero
 
   -- The stream alone is open.
   alone : (o : Begun) × (o.state ≡ stream_group) × (next.place.units ≡ o ∷ [])
   alone =
-      let (j, checked, is) = group_rules l a.place.units g (answer-called l a (group g) zero).0 in
+      let (j, checked, is) = group_rules l a.place.units g (answer_called l a (group g) zero).0 in
       let id = id_at l g in
       let had : Begun = record { state = admit j.unit.state id; start = j.unit.start } in
       let units : next.place.units ≡ had ∷ j.outer =
-      ap (λ (q : BuilderPlace). q.units) (answer-place l a (group g) zero) ∙ units-group l a.place j.unit j.outer g j.joins in
+      ap (λ (q : BuilderPlace). q.units) (answer_place l a (group g) zero) ∙ units_group l a.place j.unit j.outer g j.joins in
       let state = group_state j.unit.state id (group_kind id is) j.admitted in
       let kinds = rw units at (fitting l (length next.buffer) next.place next_fits).kinds in
       (had, state, units ∙ ap (λ os. had ∷ os) (stream_outer had j.outer state kinds))
@@ -106,5 +106,5 @@ module _ (l : Layout) (a : Reply) (g : List ℕ) (zero : (answer l a (group g)).
       let (o, state, units) = alone in
       let none : joining (id_of l r) next.place.units ≡ [] =
       rw units (none_joined o (id_of l r) (rw state (only_call (id_of l r) (no_call l r w)))) in
-      call-number l next.buffer next.place r ∙ call-fitting l (length next.buffer) next.place r next_fits
+      call_number_lem l next.buffer next.place r ∙ call_fitting l (length next.buffer) next.place r next_fits
       ∙ seven l next.place.units r _ w none

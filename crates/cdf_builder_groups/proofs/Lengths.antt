@@ -37,58 +37,58 @@ module _ (l : Layout) where
   Apart n [] = record {}
   Apart n (o ∷ os) = (o.start + prefix_of l ≤ n) × Apart o.start os
 
-  pub nested-apart : (w : ℕ) (os : List Begun) → Nested l os → Written l w os → Apart w os
-  nested-apart w [] h e = absurd h
-  nested-apart w (o ∷ []) h e = (e, record {})
-  nested-apart w (o ∷ p ∷ os) h e = (e, nested-apart o.start (p ∷ os) h.3 h.2)
+  pub nested_apart : (w : ℕ) (os : List Begun) → Nested l os → Written l w os → Apart w os
+  nested_apart w [] h e = absurd h
+  nested_apart w (o ∷ []) h e = (e, record {})
+  nested_apart w (o ∷ p ∷ os) h e = (e, nested_apart o.start (p ∷ os) h.3 h.2)
 
   abbrev number : ℕ → Begun → List ℕ
   number w o = bytes_of l.length_bytes (w - o.start)
 
-  pub lengths-both : (w : ℕ) (xs ys : List Begun) (s : List ℕ) → lengths l w (xs ++ ys) s ≡ lengths l w xs (lengths l w ys s)
-  lengths-both w [] ys s = sym (lengths_none l w (lengths l w ys s))
-  lengths-both w (x ∷ xs) ys s =
-      lengths_one l w x (xs ++ ys) s ∙ ap (patch (x.start + 2) (number w x)) (lengths-both w xs ys s) ∙ sym (lengths_one l w x xs (lengths l w ys s))
+  pub lengths_both : (w : ℕ) (xs ys : List Begun) (s : List ℕ) → lengths l w (xs ++ ys) s ≡ lengths l w xs (lengths l w ys s)
+  lengths_both w [] ys s = sym (lengths_none l w (lengths l w ys s))
+  lengths_both w (x ∷ xs) ys s =
+      lengths_one l w x (xs ++ ys) s ∙ ap (patch (x.start + 2) (number w x)) (lengths_both w xs ys s) ∙ sym (lengths_one l w x xs (lengths l w ys s))
 
   -- In the front.
-  pub lengths-front : (w n : ℕ) (os : List Begun) (a b : List ℕ) → Apart n os → n ≤ length a → lengths l w os (a ++ b) ≡ lengths l w os a ++ b
-  lengths-front w n [] a b h room = lengths_none l w (a ++ b) ∙ ap (λ (x : List ℕ). x ++ b) (sym (lengths_none l w a))
-  lengths-front w n (o ∷ os) a b h room =
+  pub lengths_front : (w n : ℕ) (os : List Begun) (a b : List ℕ) → Apart n os → n ≤ length a → lengths l w os (a ++ b) ≡ lengths l w os a ++ b
+  lengths_front w n [] a b h room = lengths_none l w (a ++ b) ∙ ap (λ (x : List ℕ). x ++ b) (sym (lengths_none l w a))
+  lengths_front w n (o ∷ os) a b h room =
       let inside : o.start + 2 + length (number w o) ≤ length (lengths l w os a) =
       omega (arith, length_bytes_lem l.length_bytes (w - o.start), length_lengths l w os a, h.0) in
       lengths_one l w o os (a ++ b)
-      ∙ ap (patch (o.start + 2) (number w o)) (lengths-front w o.start os a b h.1 (omega (arith, h.0)))
+      ∙ ap (patch (o.start + 2) (number w o)) (lengths_front w o.start os a b h.1 (omega (arith, h.0)))
       ∙ patch_front (o.start + 2) (number w o) (lengths l w os a) b inside
       ∙ ap (λ (x : List ℕ). x ++ b) (sym (lengths_one l w o os a))
 
   -- Behind it.
-  pub lengths-behind : (base w : ℕ) (os : List Begun) (a b : List ℕ) → length a ≡ base →
+  pub lengths_behind : (base w : ℕ) (os : List Begun) (a b : List ℕ) → length a ≡ base →
       lengths l (base + w) (map (further base) os) (a ++ b) ≡ a ++ lengths l w os b
-  lengths-behind base w [] a b long = lengths_none l (base + w) (a ++ b) ∙ ap (λ (x : List ℕ). a ++ x) (sym (lengths_none l w b))
-  lengths-behind base w (o ∷ os) a b long =
+  lengths_behind base w [] a b long = lengths_none l (base + w) (a ++ b) ∙ ap (λ (x : List ℕ). a ++ x) (sym (lengths_none l w b))
+  lengths_behind base w (o ∷ os) a b long =
       let at : base + o.start + 2 - length a ≡ o.start + 2 = omega arith in
       let same : base + w - (base + o.start) ≡ w - o.start = omega arith in
       lengths_one l (base + w) (further base o) (map (further base) os) (a ++ b)
-      ∙ ap (patch (base + o.start + 2) (number (base + w) (further base o))) (lengths-behind base w os a b long)
+      ∙ ap (patch (base + o.start + 2) (number (base + w) (further base o))) (lengths_behind base w os a b long)
       ∙ patch_behind (base + o.start + 2) (number (base + w) (further base o)) a (lengths l w os b) (omega arith)
       ∙ ap₂ (λ (k m : ℕ). a ++ patch k (bytes_of l.length_bytes m) (lengths l w os b)) at same
       ∙ ap (λ (x : List ℕ). a ++ x) (sym (lengths_one l w o os b))
 
   -- At the end of the front and before that.
-  lengths-split : (w : ℕ) (o : Begun) (os : List Begun) (a b : List ℕ) → length a ≡ o.start → Apart o.start os →
+  lengths_split : (w : ℕ) (o : Begun) (os : List Begun) (a b : List ℕ) → length a ≡ o.start → Apart o.start os →
       lengths l w (o ∷ os) (a ++ b) ≡ lengths l w os a ++ patch 2 (number w o) b
-  lengths-split w o os a b long h =
+  lengths_split w o os a b long h =
       let same = length_lengths l w os a in
       let at : o.start + 2 - length (lengths l w os a) ≡ 2 = omega arith in
       lengths_one l w o os (a ++ b)
-      ∙ ap (patch (o.start + 2) (number w o)) (lengths-front w o.start os a b h (omega arith))
+      ∙ ap (patch (o.start + 2) (number w o)) (lengths_front w o.start os a b h (omega arith))
       ∙ patch_behind (o.start + 2) (number w o) (lengths l w os a) b (omega arith)
       ∙ ap (λ (k : ℕ). lengths l w os a ++ patch k (number w o) b) at
 
   -- Only the last lengths count.
-  pub lengths-again : (w v n : ℕ) (os : List Begun) (s : List ℕ) → Apart n os → n ≤ length s → lengths l w os (lengths l v os s) ≡ lengths l w os s
-  lengths-again w v n [] s h room = ap (lengths l w []) (lengths_none l v s)
-  lengths-again w v n (o ∷ os) s h room =
+  pub lengths_again : (w v n : ℕ) (os : List Begun) (s : List ℕ) → Apart n os → n ≤ length s → lengths l w os (lengths l v os s) ≡ lengths l w os s
+  lengths_again w v n [] s h room = ap (lengths l w []) (lengths_none l v s)
+  lengths_again w v n (o ∷ os) s h room =
       let a = take o.start s in
       let b = drop o.start s in
       let long : length a ≡ o.start = length-take-le o.start s (omega (arith, h.0)) in
@@ -97,9 +97,9 @@ module _ (l : Layout) where
       let new = length_bytes_lem l.length_bytes (w - o.start) in
       let old = length_bytes_lem l.length_bytes (v - o.start) in
       rw parts at (
-      ap (lengths l w (o ∷ os)) (lengths-split v o os a b long h.1)
-      ∙ lengths-split w o os (lengths l v os a) (patch 2 (number v o) b) (length_lengths l v os a ∙ long) h.1
-      ∙ ap₂ (λ (x y : List ℕ). x ++ y) (lengths-again w v o.start os a h.1 (omega arith))
+      ap (lengths l w (o ∷ os)) (lengths_split v o os a b long h.1)
+      ∙ lengths_split w o os (lengths l v os a) (patch 2 (number v o) b) (length_lengths l v os a ∙ long) h.1
+      ∙ ap₂ (λ (x y : List ℕ). x ++ y) (lengths_again w v o.start os a h.1 (omega arith))
       (patch_twice 2 (number w o) (number v o) b (new ∙ sym old) (omega (arith, h.0)))
-      ∙ sym (lengths-split w o os a b long h.1)
+      ∙ sym (lengths_split w o os a b long h.1)
       )

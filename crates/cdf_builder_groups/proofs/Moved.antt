@@ -18,10 +18,10 @@ use Rattle.cdf_builder_runs.specs.Runs.{sizes, requested, AllLent}
 use Rattle.cdf_builder_runs.specs.Building.{Building, and_then, layout, asked, first, last, finish, AllZero}
 use Rattle.cdf_builder_runs.specs.Telling.{Tells}
 use Rattle.cdf_builder_groups.specs.Claims.{moved_by}
-use Rattle.cdf_builder_runs.proofs.Answers.{done-front}
+use Rattle.cdf_builder_runs.proofs.Answers.{done_front}
 use Rattle.cdf_builder_runs.proofs.Building.{written, whole_by, accepted, builds}
 use Rattle.cdf_builder_runs.proofs.Said.{stream_says, requested_append, requested_group, requested_says}
-use Rattle.cdf_builder_groups.proofs.Stand.{moved-list, Stands, stands}
+use Rattle.cdf_builder_groups.proofs.Stand.{moved_list, Stands, stands}
 
 -- Two lists, one after the other, cut where the first ends.
 cut : {A : Type 0} (a b c d : List A) → length a ≡ length c → a ++ b ≡ c ++ d → (a ≡ c) × (b ≡ d)
@@ -55,7 +55,7 @@ module _ (e : Edition) (front : List ℕ) (t : Forest) (whole : Stream (layout_o
       let at : 0 + base ≡ base + 0 = omega arith in
       (proved.streams e).listed front t whole
       ∙ here.parts
-      ∙ rw (at, moved-list l base 0 root, ← (proved.streams e).listed g root here.stream)
+      ∙ rw (at, moved_list l base 0 root, ← (proved.streams e).listed g root here.stream)
 
   item : Unit → Item
   item = item_of l front
@@ -74,11 +74,11 @@ module _ (e : Edition) (front : List ℕ) (t : Forest) (whole : Stream (layout_o
   unfolding items_of
   long = simp length-map
 
-  said-before : map item before ≡ requested l xs
-  said-before = (cut (map item before) _ (requested l xs) _ (simp length-map here.count) said).0
+  said_before : map item before ≡ requested l xs
+  said_before = (cut (map item before) _ (requested l xs) _ (simp length-map here.count) said).0
 
-  said-after : map item after ≡ requested l ys
-  said-after =
+  said_after : map item after ≡ requested l ys
+  said_after =
       let rest = (cut (map item before) _ (requested l xs) _ (simp length-map here.count) said).1 in
       (cut (map item moved) (map item after) (items_of l g) (requested l ys) long rest).1
 
@@ -107,9 +107,9 @@ module _ (b : Building) (g : List ℕ) (ys : List Request) where
       record { tree = grammar; within = rw is (simp length-take (omega (arith, limit, long))); bytes = sym (is ∙ bytes) } in (
         before e front t whole (asked b) g ys tells,
         after e front t whole (asked b) g ys tells,
-        rw (written b (done-front (layout b) (first b) b.calls (group g ∷ ys) done)) (listed e front t whole (asked b) g ys tells),
-        said-before e front t whole (asked b) g ys tells,
-        said-after e front t whole (asked b) g ys tells,
+        rw (written b (done_front (layout b) (first b) b.calls (group g ∷ ys) done)) (listed e front t whole (asked b) g ys tells),
+        said_before e front t whole (asked b) g ys tells,
+        said_after e front t whole (asked b) g ys tells,
       )
 
   pub moved_in : (c : Building) → c ≡ all → AllLent c.calls → AllZero c → (finish c).number ≡ 0 → (front : List ℕ) →

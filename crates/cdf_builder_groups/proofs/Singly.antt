@@ -29,28 +29,28 @@ use Rattle.cdf_builder_spec.specs.Requests.{Request, unit, group, completed, byt
 use Rattle.cdf_builder_spec.specs.Calls.{Reply, Finish, lengths}
 use Rattle.cdf_builder_spec.specs.declared.Begun.{Begun}
 use Rattle.cdf_builder_spec.proofs.Fitting.{fitting}
-use Rattle.cdf_builder_spec.proofs.Nested.{Nested, Written, fitting-nested, outside, outside-written}
+use Rattle.cdf_builder_spec.proofs.Nested.{Nested, Written, fitting_nested, outside, outside_written}
 use Rattle.cdf_builder_spec.proofs.Lengths.{lengths_none}
 use Rattle.cdf_builder_spec.proofs.Joining.{Joins}
-use Rattle.cdf_builder_spec.proofs.Replying.{root_place, grown_written, bytes_unit, unit_size, start_zero, start-number, start-done}
+use Rattle.cdf_builder_spec.proofs.Replying.{root_place, grown_written, bytes_unit, unit_size, start_zero, start_number_lem, start_done}
 use Rattle.cdf_builder_runs.specs.Runs.{root_item, answer, run, AllDone, AllLent}
 use Rattle.cdf_builder_runs.specs.Building.{Building, size, first, last, finish, AllZero}
 use Rattle.cdf_builder_runs.specs.Telling.{Tells, Whole}
 use Rattle.cdf_builder_groups.specs.Claims.{Singly}
 use Rattle.cdf_builder_runs.proofs.Shut.{shut_completed}
-use Rattle.cdf_builder_runs.proofs.Answers.{answer-fit, answer-called, answer-place, answer-buffer, first_done, run-place}
+use Rattle.cdf_builder_runs.proofs.Answers.{answer_fit, answer_called, answer_place, answer_buffer, first_done, run_place}
 use Rattle.cdf_builder_runs.proofs.Forward.{in_state, At, Leads, over}
-use Rattle.cdf_builder_runs.proofs.Rooms.{admitted-done, run-written}
+use Rattle.cdf_builder_runs.proofs.Rooms.{admitted_done, run_written}
 use Rattle.cdf_builder_runs.proofs.Passed.{GroupPassed, group_passed}
-use Rattle.cdf_builder_runs.proofs.Taken.{units-open, units-group, bytes_group}
+use Rattle.cdf_builder_runs.proofs.Taken.{units_open, units_group, bytes_group}
 use Rattle.cdf_builder_runs.proofs.Kept.{front_put, kept_start, kept_settled}
 use Rattle.cdf_builder_runs.proofs.Ending.{tells_units}
 use Rattle.cdf_builder_runs.proofs.Said.{stream_says}
 use Rattle.cdf_builder_runs.proofs.Building.{accepted, builds}
-use Rattle.cdf_builder_groups.proofs.Told.{tells-sizes}
+use Rattle.cdf_builder_groups.proofs.Told.{tells_sizes}
 use Rattle.cdf_builder_groups.proofs.Levels.{nested_shut}
-use Rattle.cdf_builder_groups.proofs.Lengths.{Apart, nested-apart}
-use Rattle.cdf_builder_groups.proofs.Over.{lifted, writes_as, Over, over-run}
+use Rattle.cdf_builder_groups.proofs.Lengths.{Apart, nested_apart}
+use Rattle.cdf_builder_groups.proofs.Over.{lifted, writes_as, Over, over_run}
 
 -- The own data of listed units are bytes of the stream.
 items_lent : (l : Layout) (g : List ℕ) → Bytes g → (us : List Unit) → AllLent (map unit (map (item_of l g) us))
@@ -90,14 +90,14 @@ module _ (e : Edition) (a : Reply) (g : List ℕ) (bytes : Bytes g) (begun : a.n
   id = id_at l g
 
   fit : fits l (length a.buffer) p ≡ true
-  fit = answer-fit l a (group g) zero
+  fit = answer_fit l a (group g) zero
 
   asked : (refused l p.units (group g) 0 ≡ 0) × (p.written + length (bytes_for l (group g)) ≤ l.limit)
       × (p.written + length (bytes_for l (group g)) ≤ length a.buffer)
-  asked = answer-called l a (group g) zero
+  asked = answer_called l a (group g) zero
 
-  whole-size : length (bytes_for l (group g)) ≡ length g
-  whole-size = ap length (bytes_group l g)
+  whole_size : length (bytes_for l (group g)) ≡ length g
+  whole_size = ap length (bytes_group l g)
 
   passed : GroupPassed l p.units g
   passed = group_passed e p.units g bytes asked.0
@@ -141,7 +141,7 @@ module _ (e : Edition) (a : Reply) (g : List ℕ) (bytes : Bytes g) (begun : a.n
   alone = record { edition = e; buffer = drop p.written a.buffer; root = id; calls = rest }
 
   size_is : size alone ≡ length g
-  size_is = tells-sizes l root units tells ∙ ap length stream.bytes
+  size_is = tells_sizes l root units tells ∙ ap length stream.bytes
 
   lent : AllLent rest
   lent = let all : AllLent units = rw units_are at (units_lent l g bytes) in all.1
@@ -150,15 +150,15 @@ module _ (e : Edition) (a : Reply) (g : List ℕ) (bytes : Bytes g) (begun : a.n
   whole = (root, stream.tree, tells)
 
   room : length g ≤ length alone.buffer
-  room = omega (arith, length-drop p.written a.buffer, asked.2, whole-size)
+  room = omega (arith, length-drop p.written a.buffer, asked.2, whole_size)
 
-  alone-done : AllZero alone
-  alone-done =
+  alone_done : AllZero alone
+  alone_done =
       (accepted alone lent).1 (([], (root, stream.tree, rw append-nil tells)), omega (arith, size_is, stream.within), omega (arith, size_is, room))
 
-  alone-bytes : (last alone).buffer ≡ g ++ drop (length g) alone.buffer
-  alone-bytes =
-      let b = builds alone lent alone-done in
+  alone_bytes : (last alone).buffer ≡ g ++ drop (length g) alone.buffer
+  alone_bytes =
+      let b = builds alone lent alone_done in
       let end = (last alone).buffer in
       let long : (finish alone).length ≡ length g = ap (λ (f : Finish). f.length) (b.finished.1 whole) ∙ size_is in
       let front : take (length g) end ≡ g =
@@ -168,7 +168,7 @@ module _ (e : Edition) (a : Reply) (g : List ℕ) (bytes : Bytes g) (begun : a.n
 
   -- Over the front its units are admitted and lead to the same unit.
   nested : Nested l (joins.inner ++ (o ∷ joins.outer)) × Written l p.written (joins.inner ++ (o ∷ joins.outer))
-  nested = rw joins.parts at (fitting-nested l (length a.buffer) p (fitting l (length a.buffer) p fit))
+  nested = rw joins.parts at (fitting_nested l (length a.buffer) p (fitting l (length a.buffer) p fit))
 
   at : At p.units o joins.outer
   at = record {
@@ -184,16 +184,16 @@ module _ (e : Edition) (a : Reply) (g : List ℕ) (bytes : Bytes g) (begun : a.n
       joins.outer at joins.admitted
 
   each : AllDone l a units
-  each = admitted-done l units a begun fit leads.0 (omega (arith, asked.1, size_is, whole-size), omega (arith, asked.2, size_is, whole-size))
+  each = admitted_done l units a begun fit leads.0 (omega (arith, asked.1, size_is, whole_size), omega (arith, asked.2, size_is, whole_size))
 
-  group-written : (grown l p (group g)).written ≡ p.written + length g
-  group-written = grown_written l p (group g) ∙ ap (λ (k : ℕ). p.written + k) whole-size
+  group_written : (grown l p (group g)).written ≡ p.written + length g
+  group_written = grown_written l p (group g) ∙ ap (λ (k : ℕ). p.written + k) whole_size
 
   written : (run l a units).place.written ≡ (answer l a (group g)).place.written
-  written = run-written l units a each ∙ rw (size_is, answer-place l a (group g) zero, group-written)
+  written = run_written l units a each ∙ rw (size_is, answer_place l a (group g) zero, group_written)
 
-  group-units : (grown l p (group g)).units ≡ around
-  group-units = units-group l p o joins.outer g joins.joins
+  group_units : (grown l p (group g)).units ≡ around
+  group_units = units_group l p o joins.outer g joins.joins
 
   left : (inner : List Begun) × (completed inner ≡ true) × ((run l a units).place.units ≡ inner ++ (answer l a (group g)).place.units)
   unfolding completed
@@ -203,8 +203,8 @@ module _ (e : Edition) (a : Reply) (g : List ℕ) (bytes : Bytes g) (begun : a.n
       let units_of : BuilderPlace → List Begun = λ q. q.units in (
         inner,
         rw append-nil at (shut_completed _ inner [] end.shut refl),
-        ap units_of (run-place l a units each) ∙ end.are
-            ∙ ap (λ os. inner ++ os) (sym (ap units_of (answer-place l a (group g) zero) ∙ group-units)),
+        ap units_of (run_place l a units each) ∙ end.are
+            ∙ ap (λ os. inner ++ os) (sym (ap units_of (answer_place l a (group g) zero) ∙ group_units)),
       )
 
   -- The front, and the units around the group in it.
@@ -219,50 +219,50 @@ module _ (e : Edition) (a : Reply) (g : List ℕ) (bytes : Bytes g) (begun : a.n
 
   apart : Apart l p.written around
   apart =
-      nested-apart l p.written (o ∷ joins.outer) (outside l joins.inner o joins.outer nested.0)
-      (outside-written l p.written joins.inner o joins.outer nested.0 nested.1)
+      nested_apart l p.written (o ∷ joins.outer) (outside l joins.inner o joins.outer nested.0)
+      (outside_written l p.written joins.inner o joins.outer nested.0 nested.1)
 
   here : p.written ≡ p.written + 0
   here = omega arith
 
   -- The whole group.
-  group-bytes : (answer l a (group g)).buffer ≡ lengths l (grown l p (group g)).written around front ++ (g ++ drop (length g) alone.buffer)
-  group-bytes =
-      answer-buffer l a (group g) zero
+  group_bytes : (answer l a (group g)).buffer ≡ lengths l (grown l p (group g)).written around front ++ (g ++ drop (length g) alone.buffer)
+  group_bytes =
+      answer_buffer l a (group g) zero
       ∙ writes_as p.written around l front long apart front long (λ w. refl) (length g) 0 (grown l p (group g)).written p.written []
-      (grown l p (group g)).units (bytes_for l (group g)) alone.buffer a.buffer group-units group-written here parts
+      (grown l p (group g)).units (bytes_for l (group g)) alone.buffer a.buffer group_units group_written here parts
       ∙ ap (λ (x : List ℕ). lengths l (grown l p (group g)).written around front ++ x)
       (lengths_none l (length g) _ ∙ rw (bytes_group l g) (front_put g alone.buffer room))
 
   -- Its first unit, and the start for the group alone.
   started : (first alone).number ≡ 0
-  started = first_done l (first alone) rest alone-done
+  started = first_done l (first alone) rest alone_done
 
   start_is : first alone ≡ record { number = 0; place = root_place l id; buffer = patch 0 (unit_bytes l id 0 [] []) alone.buffer }
-  start_is = start-done l alone.buffer id (sym (start-number l alone.buffer id) ∙ started)
+  start_is = start_done l alone.buffer id (sym (start_number_lem l alone.buffer id) ∙ started)
 
   kind : root_kind id ≡ true
-  kind = ((start_zero l (length alone.buffer) id).0 (sym (start-number l alone.buffer id) ∙ started)).0
+  kind = ((start_zero l (length alone.buffer) id).0 (sym (start_number_lem l alone.buffer id) ∙ started)).0
 
-  root-open : opens id ≡ true
-  root-open = opens_by id (nothing id) refl (root_opens id kind)
+  root_open : opens id ≡ true
+  root_open = opens_by id (nothing id) refl (root_opens id kind)
 
-  first-over : Over p.written around l front long apart (answer l a (unit (root_item id))) (first alone)
-  first-over =
+  first_over : Over p.written around l front long apart (answer l a (unit (root_item id))) (first alone)
+  first_over =
       let r = unit (root_item id) in
       let done = first_done l (answer l a r) rest each.1 in
       let top : Begun = record { state = nothing id; start = 0 } in
       let units : (grown l p r).units ≡ lifted p.written around (top ∷ []) =
-      units-open l p o joins.outer (root_item id) root-open joins.joins
+      units_open l p o joins.outer (root_item id) root_open joins.joins
       ∙ ap {B = List Begun} (λ k. record { state = nothing id; start = k } ∷ around) here in
       let grows : (grown l p r).written ≡ p.written + prefix_of l = omega (arith, grown_written l p r, unit_size l (root_item id)) in
       let settled = rw start_is at (kept_settled l alone.buffer _ _ _ (kept_start l alone.buffer id started)) in
       rw start_is (record {
-        units = rw (answer-place l a r done) units;
-        written = rw (answer-place l a r done) grows;
+        units = rw (answer_place l a r done) units;
+        written = rw (answer_place l a r done) grows;
         buffer =
-            rw (answer-place l a r done)
-            (answer-buffer l a r done
+            rw (answer_place l a r done)
+            (answer_buffer l a r done
             ∙ writes_as p.written around l front long apart front long (λ w. refl) (prefix_of l) 0 (grown l p r).written p.written (top ∷ [])
             (grown l p r).units (bytes_for l r) alone.buffer a.buffer units grows here parts
             ∙ ap (λ (x : List ℕ). lengths l (grown l p r).written around front ++ x) (rw (bytes_unit l (root_item id)) settled));
@@ -272,10 +272,10 @@ module _ (e : Edition) (a : Reply) (g : List ℕ) (bytes : Bytes g) (begun : a.n
   unfolding run
   same =
       let end =
-      over-run p.written around l front long apart rest (answer l a (unit (root_item id))) (first alone) first-over each.1 alone-done in
+      over_run p.written around l front long apart rest (answer l a (unit (root_item id))) (first alone) first_over each.1 alone_done in
       let size : (run l a units).place.written ≡ (grown l p (group g)).written =
-      written ∙ ap (λ (q : BuilderPlace). q.written) (answer-place l a (group g) zero) in
-      end.buffer ∙ ap₂ (λ (k : ℕ) (x : List ℕ). lengths l k around front ++ x) size alone-bytes ∙ sym group-bytes
+      written ∙ ap (λ (q : BuilderPlace). q.written) (answer_place l a (group g) zero) in
+      end.buffer ∙ ap₂ (λ (k : ℕ) (x : List ℕ). lengths l k around front ++ x) size alone_bytes ∙ sym group_bytes
 
   pub singly : Singly l a g
   singly = record {

@@ -18,9 +18,9 @@ use Rattle.cdf_builder_spec.proofs.Replying.{unit_size}
 use Rattle.cdf_builder_runs.specs.Runs.{sizes, requested}
 use Rattle.cdf_builder_runs.specs.Telling.{Tells}
 use Rattle.cdf_builder_groups.specs.Claims.{moved_by}
-use Rattle.cdf_builder_runs.proofs.Rooms.{sizes-end, sizes-on}
+use Rattle.cdf_builder_runs.proofs.Rooms.{sizes_end, sizes_on}
 use Rattle.cdf_builder_runs.proofs.Said.{requested_append, requested_says, requested_none, requested_unit}
-use Rattle.cdf_builder_groups.proofs.Told.{sizes-append, tree-size, tells-sizes}
+use Rattle.cdf_builder_groups.proofs.Told.{sizes_append, tree_size, tells_sizes}
 
 -- An element of two lists, one after the other, is in the first or in the second.
 splits : {A : Type 0} (a b xs : List A) (x : A) (ys : List A) → a ++ b ≡ xs ++ (x ∷ ys) →
@@ -43,9 +43,9 @@ module _ (l : Layout) where
     end = at + prefix_of l + (length text + length (encode l inner));
   }
 
-  list-none : (at : ℕ) → list l at none ≡ []
+  list_none : (at : ℕ) → list l at none ≡ []
   unfolding list
-  list-none at = refl
+  list_none at = refl
 
   list_tree : (at id action : ℕ) (text : List ℕ) (inner rest : Forest) →
       list l at (tree id action text inner rest)
@@ -55,22 +55,22 @@ module _ (l : Layout) where
   list_tree at id action text inner rest = refl
 
   -- The first tree, and the trees after it.
-  list-first : (at id action : ℕ) (text : List ℕ) (inner rest : Forest) →
+  list_first : (at id action : ℕ) (text : List ℕ) (inner rest : Forest) →
       list l at (tree id action text inner rest)
       ≡ list l at (tree id action text inner none) ++ list l (at + prefix_of l + (length text + length (encode l inner))) rest
-  list-first at id action text inner rest =
-      rw (list_tree at id action text inner rest, list_tree at id action text inner none, list-none, append-nil (list l (at + prefix_of l + length text) inner))
+  list_first at id action text inner rest =
+      rw (list_tree at id action text inner rest, list_tree at id action text inner none, list_none, append-nil (list l (at + prefix_of l + length text) inner))
 
-  moved-first : (base at id action : ℕ) (text : List ℕ) (inner : Forest) →
+  moved_first : (base at id action : ℕ) (text : List ℕ) (inner : Forest) →
       first (base + at) id action text inner ≡ moved_by base (first at id action text inner)
   unfolding moved_by
-  moved-first base at id action text inner =
+  moved_first base at id action text inner =
       ap₂ (λ (own end : ℕ). record { id = id; action = action; start = base + at; own = own; end = end }) (omega arith) (omega arith)
 
   -- Trees that stand further have the same units, moved.
-  pub moved-list : (base at : ℕ) (f : Forest) → list l (base + at) f ≡ map (moved_by base) (list l at f)
-  moved-list base at none = rw (list-none (base + at), list-none at)
-  moved-list base at (tree id action text inner rest) =
+  pub moved_list : (base at : ℕ) (f : Forest) → list l (base + at) f ≡ map (moved_by base) (list l at f)
+  moved_list base at none = rw (list_none (base + at), list_none at)
+  moved_list base at (tree id action text inner rest) =
       let body : base + at + prefix_of l + length text ≡ base + (at + prefix_of l + length text) = omega arith in
       let end : base + at + prefix_of l + (length text + length (encode l inner)) ≡ base + (at + prefix_of l + (length text + length (encode l inner))) =
       omega arith in
@@ -78,16 +78,16 @@ module _ (l : Layout) where
         list_tree (base + at) id action text inner rest,
         list_tree at id action text inner rest,
         map-append (moved_by base),
-        moved-first base at id action text inner,
+        moved_first base at id action text inner,
         body,
         end,
-        moved-list base (at + prefix_of l + length text) inner,
-        moved-list base (at + prefix_of l + (length text + length (encode l inner))) rest,
+        moved_list base (at + prefix_of l + length text) inner,
+        moved_list base (at + prefix_of l + (length text + length (encode l inner))) rest,
       )
 
   list_count : (at : ℕ) (f : Forest) → length (list l at f) ≡ length (says f)
   unfolding says
-  list_count at none = rw (list-none at)
+  list_count at none = rw (list_none at)
   list_count at (tree id action text inner rest) =
       let body = at + prefix_of l + length text in
       let end = at + prefix_of l + (length text + length (encode l inner)) in
@@ -112,30 +112,30 @@ module _ (e : Edition) (g : List ℕ) where
     end = at + prefix_of l + (length text + length (encode l inner))
 
     -- The group stands behind the first tree,
-    stands-behind : (hs m : List Request) → Tells l (tree id action text inner none) hs → Stands l end rest m g →
+    stands_behind : (hs m : List Request) → Tells l (tree id action text inner none) hs → Stands l end rest m g →
         Stands l at (tree id action text inner rest) (hs ++ m) g
-    stands-behind hs m tells s =
+    stands_behind hs m tells s =
         let alone = tree id action text inner none in
         let size : sizes l hs ≡ prefix_of l + (length text + length (encode l inner)) =
-        tells-sizes l alone hs tells ∙ tree-size l id action text inner none ∙ rw (encode_none l) (omega arith) in
-        let there : end + sizes l m ≡ at + sizes l (hs ++ m) = rw (sizes-append l hs m, size) (omega arith) in
+        tells_sizes l alone hs tells ∙ tree_size l id action text inner none ∙ rw (encode_none l) (omega arith) in
+        let there : end + sizes l m ≡ at + sizes l (hs ++ m) = rw (sizes_append l hs m, size) (omega arith) in
         record {
           root = s.root;
           stream = s.stream;
           before = list l at alone ++ s.before;
           after = s.after;
-          parts = rw (list-first l at id action text inner rest, s.parts, there) (sym (append_assoc (list l at alone) s.before _));
+          parts = rw (list_first l at id action text inner rest, s.parts, there) (sym (append_assoc (list l at alone) s.before _));
           count =
               rw (length-append, s.count, list_count l at alone, requested_says e alone hs tells, requested_append l hs m, length-append);
         }
 
     -- or in it.
-    stands-in : (m : List Request) → Stands l (at + prefix_of l + length text) inner m g →
+    stands_in : (m : List Request) → Stands l (at + prefix_of l + length text) inner m g →
         Stands l at (tree id action text inner rest) (unit (record { id = id; action = action; text = text }) ∷ m) g
-    stands-in m s =
+    stands_in m s =
         let u : Item = record { id = id; action = action; text = text } in
         let there : at + prefix_of l + length text + sizes l m ≡ at + sizes l (unit u ∷ m) =
-        rw (sizes-on l (unit u) m, unit_size l u) (omega arith) in
+        rw (sizes_on l (unit u) m, unit_size l u) (omega arith) in
         record {
           root = s.root;
           stream = s.stream;
@@ -147,16 +147,16 @@ module _ (e : Edition) (g : List ℕ) where
           count = rw (requested_unit l u m, s.count);
         }
 
-  stands-first : (id action : ℕ) (text : List ℕ) (inner rest : Forest) (at : ℕ) → Stream l g (tree id action text inner none) →
+  stands_first : (id action : ℕ) (text : List ℕ) (inner rest : Forest) (at : ℕ) → Stream l g (tree id action text inner none) →
       Stands l at (tree id action text inner rest) [] g
-  stands-first id action text inner rest at s =
-      let here : at + sizes l [] ≡ at = rw (sizes-end l) (omega arith) in
+  stands_first id action text inner rest at s =
+      let here : at + sizes l [] ≡ at = rw (sizes_end l) (omega arith) in
       record {
         root = tree id action text inner none;
         stream = s;
         before = [];
         after = list l (end at id action text inner rest) rest;
-        parts = rw here (list-first l at id action text inner rest);
+        parts = rw here (list_first l at id action text inner rest);
         count = rw (requested_none l);
       }
 
@@ -168,30 +168,30 @@ module _ (e : Edition) (g : List ℕ) where
     abbrev item : Item
     item = record { id = id; action = action; text = text }
 
-    by-unit : (within later xs ys : List Request) → Tells l inner within → Tells l rest later → within ++ later ≡ xs ++ (group g ∷ ys) →
+    by_unit : (within later xs ys : List Request) → Tells l inner within → Tells l rest later → within ++ later ≡ xs ++ (group g ∷ ys) →
         Stands l at (tree id action text inner rest) (unit item ∷ xs) g
-    by-unit within later xs ys inside behind e = elim (splits within later xs (group g) ys e) [
+    by_unit within later xs ys inside behind e = elim (splits within later xs (group g) ys e) [
       | inl w ↦
-          stands-in at id action text inner rest xs (over-inner (at + prefix_of l + length text) within xs w.0 inside w.1)
+          stands_in at id action text inner rest xs (over-inner (at + prefix_of l + length text) within xs w.0 inside w.1)
       | inr w ↦
           rw w.1
-          (stands-behind at id action text inner rest (unit item ∷ within) w.0 (inl (within, [], rw append-nil, inside, refl))
+          (stands_behind at id action text inner rest (unit item ∷ within) w.0 (inl (within, [], rw append-nil, inside, refl))
           (over-rest (end at id action text inner rest) later w.0 ys behind w.2))
     ]
 
-    over-tree : (rs xs ys : List Request) → Tells l (tree id action text inner rest) rs → rs ≡ xs ++ (group g ∷ ys) →
+    over_tree : (rs xs ys : List Request) → Tells l (tree id action text inner rest) rs → rs ≡ xs ++ (group g ∷ ys) →
         Stands l at (tree id action text inner rest) xs g
-    over-tree rs [] ys (inl (within, later, is, inside, behind)) e = clash cc
-    over-tree rs (x ∷ xs) ys (inl (within, later, is, inside, behind)) e =
+    over_tree rs [] ys (inl (within, later, is, inside, behind)) e = clash cc
+    over_tree rs (x ∷ xs) ys (inl (within, later, is, inside, behind)) e =
         let same : x ≡ unit item = cc in
-        rw same (by-unit within later xs ys inside behind cc)
-    over-tree rs [] ys (inr (b, later, is, kind, s, behind)) e =
+        rw same (by_unit within later xs ys inside behind cc)
+    over_tree rs [] ys (inr (b, later, is, kind, s, behind)) e =
         let same : b ≡ g = cc in
-        stands-first id action text inner rest at (rw same at s)
-    over-tree rs (x ∷ xs) ys (inr (b, later, is, kind, s, behind)) e =
+        stands_first id action text inner rest at (rw same at s)
+    over_tree rs (x ∷ xs) ys (inr (b, later, is, kind, s, behind)) e =
         let same : x ≡ group b = cc in
         rw same
-        (stands-behind at id action text inner rest (group b ∷ []) xs (inr (b, [], refl, kind, s, refl))
+        (stands_behind at id action text inner rest (group b ∷ []) xs (inr (b, [], refl, kind, s, refl))
         (over-rest (end at id action text inner rest) later xs ys behind cc))
 
   over_none : Standing none
@@ -200,4 +200,4 @@ module _ (e : Edition) (g : List ℕ) where
 
   pub stands : (f : Forest) → Standing f
   stands none = over_none
-  stands (tree id action text inner rest) = over-tree id action text inner rest (stands inner) (stands rest)
+  stands (tree id action text inner rest) = over_tree id action text inner rest (stands inner) (stands rest)

@@ -13,34 +13,34 @@ use Rattle.cdf_builder_spec.specs.Requests.{Request, unit, group}
 use Rattle.cdf_builder_spec.proofs.Replying.{unit_size}
 use Rattle.cdf_builder_runs.specs.Runs.{sizes}
 use Rattle.cdf_builder_runs.specs.Telling.{Tells}
-use Rattle.cdf_builder_runs.proofs.Rooms.{sizes-on, sizes-end}
+use Rattle.cdf_builder_runs.proofs.Rooms.{sizes_on, sizes_end}
 use Rattle.cdf_builder_runs.proofs.Taken.{bytes_group}
 
 module _ (l : Layout) where
-  pub sizes-append : (xs ys : List Request) → sizes l (xs ++ ys) ≡ sizes l xs + sizes l ys
-  sizes-append [] ys = rw (sizes-end l) (omega arith)
-  sizes-append (x ∷ xs) ys = rw (sizes-on l x (xs ++ ys), sizes-on l x xs, sizes-append xs ys) (omega arith)
+  pub sizes_append : (xs ys : List Request) → sizes l (xs ++ ys) ≡ sizes l xs + sizes l ys
+  sizes_append [] ys = rw (sizes_end l) (omega arith)
+  sizes_append (x ∷ xs) ys = rw (sizes_on l x (xs ++ ys), sizes_on l x xs, sizes_append xs ys) (omega arith)
 
-  pub tree-size : (id action : ℕ) (text : List ℕ) (inner rest : Forest) →
+  pub tree_size : (id action : ℕ) (text : List ℕ) (inner rest : Forest) →
       length (encode l (tree id action text inner rest)) ≡ prefix_of l + (length text + length (encode l inner)) + length (encode l rest)
-  tree-size id action text inner rest = rw (encode_tree l, length-append, length_unit l)
+  tree_size id action text inner rest = rw (encode_tree l, length-append, length_unit l)
 
   -- Requests take as many bytes as the trees that they tell of.
-  pub tells-sizes : (f : Forest) (rs : List Request) → Tells l f rs → sizes l rs ≡ length (encode l f)
-  tells-sizes none rs t = rw (t, sizes-end l, encode_none)
-  tells-sizes (tree id action text inner rest) rs (inl (within, after, is, told, later)) =
+  pub tells_sizes : (f : Forest) (rs : List Request) → Tells l f rs → sizes l rs ≡ length (encode l f)
+  tells_sizes none rs t = rw (t, sizes_end l, encode_none)
+  tells_sizes (tree id action text inner rest) rs (inl (within, after, is, told, later)) =
       let u : Item = record { id = id; action = action; text = text } in
       rw (
         is,
-        sizes-on l (unit u) (within ++ after),
-        sizes-append within after,
-        tells-sizes inner within told,
-        tells-sizes rest after later,
+        sizes_on l (unit u) (within ++ after),
+        sizes_append within after,
+        tells_sizes inner within told,
+        tells_sizes rest after later,
         unit_size l u,
-        tree-size id action text inner rest,
+        tree_size id action text inner rest,
       ) (omega arith)
-  tells-sizes (tree id action text inner rest) rs (inr (g, after, is, kind, s, later)) =
+  tells_sizes (tree id action text inner rest) rs (inr (g, after, is, kind, s, later)) =
       let none-size : length (encode l none) ≡ 0 = rw encode_none in
       let long : length g ≡ prefix_of l + (length text + length (encode l inner)) =
-      rw (← s.bytes, tree-size id action text inner none) (omega arith) in
-      rw (is, sizes-on l (group g) after, tells-sizes rest after later, bytes_group l g, tree-size id action text inner rest, long)
+      rw (← s.bytes, tree_size id action text inner none) (omega arith) in
+      rw (is, sizes_on l (group g) after, tells_sizes rest after later, bytes_group l g, tree_size id action text inner rest, long)

@@ -13,7 +13,7 @@ use Rattle.cdf_builder_spec.specs.Slots.{no_begun, units}
 use Rattle.cdf_builder_spec.specs.declared.Begun.{Begun}
 use Rattle.cdf_builder_spec.proofs.Joining.{joins_over}
 use Rattle.cdf_builder_faults.specs.Parts.{outside}
-use Rattle.cdf_builder_join.proofs.Parts.{units-first}
+use Rattle.cdf_builder_join.proofs.Parts.{units_first}
 
 passed_by : (id : ℕ) (o : Begun) (os : List Begun) → admit o.state id ≡ 0 →
     (joining id (o ∷ os) ≡ joining id os) × (ending id (o ∷ os) ≡ o ∷ ending id os)
@@ -31,7 +31,7 @@ module _ (id : ℕ) (before : List Begun) (o1 o2 o3 : Begun) where
       Going (left - 1) next (full && whole)
   unfolding completed
   on {left} {inner} {full} g some none whole e next is =
-      let first = units-first o1 o2 o3 left inner next some is in
+      let first = units_first o1 o2 o3 left inner next some is in
       let w = passed_by id inner (units (left - 1) next o1 o2 o3) none in
       record {
         same = g.same ∙ rw (first, w.0);
@@ -46,11 +46,11 @@ module _ (id : ℕ) (before : List Begun) (o1 o2 o3 : Begun) where
   unfolding join_number completed advanced
   found {left} {inner} {full} g some next is other =
       let rest = outside left o1 o2 o3 in
-      let first = units-first o1 o2 o3 left inner rest some refl in
+      let first = units_first o1 o2 o3 left inner rest some refl in
       let w = joins_over [] inner (units (left - 1) rest o1 o2 o3) id (record {}) (λ z. other (is ∙ z)) in
       let here = g.same ∙ ap (joining id) first ∙ w.0 in (
         rw (here, g.ends, first, w.1, and-true, ne_eqb (length (inner ∷ units (left - 1) rest o1 o2 o3)) 0 (λ z. omega arith)),
-        units-first o1 o2 o3 left _ rest some refl ∙ rw (here, is),
+        units_first o1 o2 o3 left _ rest some refl ∙ rw (here, is),
       )
 
   pub none : {left : ℕ} {inner : Begun} {full : Bool} → Going left inner full → left ≤ 0 →
@@ -65,14 +65,14 @@ begins id count top o1 o2 o3 = record { same = refl; ends = refl }
 
 -- Whether these are complete, by the innermost and the others.
 module _ (o1 o2 o3 : Begun) {left : ℕ} (inner : Begun) (some : 0 < left) where
-  pub completed-on : (next : Begun) → next ≡ outside left o1 o2 o3 → complete inner.state ≡ true →
+  pub completed_on : (next : Begun) → next ≡ outside left o1 o2 o3 → complete inner.state ≡ true →
       completed (units left inner o1 o2 o3) ≡ completed (units (left - 1) next o1 o2 o3)
   unfolding completed
-  completed-on next is e = rw (units-first o1 o2 o3 left inner next some is, e)
+  completed_on next is e = rw (units_first o1 o2 o3 left inner next some is, e)
 
-  pub completed-not : complete inner.state ≡ false → completed (units left inner o1 o2 o3) ≡ false
+  pub completed_not : complete inner.state ≡ false → completed (units left inner o1 o2 o3) ≡ false
   unfolding completed
-  completed-not e = rw (units-first o1 o2 o3 left inner (outside left o1 o2 o3) some refl, e)
+  completed_not e = rw (units_first o1 o2 o3 left inner (outside left o1 o2 o3) some refl, e)
 
 pub completed_none : (o1 o2 o3 : Begun) {left : ℕ} (inner : Begun) → left ≤ 0 → completed (units left inner o1 o2 o3) ≡ true
 unfolding completed held_of

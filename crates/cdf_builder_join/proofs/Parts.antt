@@ -11,13 +11,13 @@ use Rattle.cdf_builder_faults.specs.Parts.{outside}
 
 module _ (o1 o2 o3 : Begun) where
   -- The unit around the innermost is the innermost of one unit less.
-  pub units-next : (k : ℕ) (top : Begun) → units (suc k) top o1 o2 o3 ≡ top ∷ units k (outside (suc k) o1 o2 o3) o1 o2 o3
+  pub units_next : (k : ℕ) (top : Begun) → units (suc k) top o1 o2 o3 ≡ top ∷ units k (outside (suc k) o1 o2 o3) o1 o2 o3
   unfolding held_of around_of
-  units-next zero top = refl
-  units-next (suc zero) top = refl
-  units-next (suc (suc zero)) top = refl
-  units-next (suc (suc (suc zero))) top = refl
-  units-next (suc (suc (suc (suc k)))) top =
+  units_next zero top = refl
+  units_next (suc zero) top = refl
+  units_next (suc (suc zero)) top = refl
+  units_next (suc (suc (suc zero))) top = refl
+  units_next (suc (suc (suc (suc k)))) top =
       let level : ℕ = suc (suc (suc (suc k))) in
       rw (
         ne_eqb level 1 (λ e. omega arith),
@@ -29,9 +29,9 @@ module _ (o1 o2 o3 : Begun) where
       )
 
   -- Where there is one, the innermost comes first.
-  pub units-first : (count : ℕ) (top next : Begun) → 0 < count → next ≡ outside count o1 o2 o3 →
+  pub units_first : (count : ℕ) (top next : Begun) → 0 < count → next ≡ outside count o1 o2 o3 →
       units count top o1 o2 o3 ≡ top ∷ units (count - 1) next o1 o2 o3
-  units-first zero top next some is = absurd (omega arith)
-  units-first (suc k) top next some is =
+  units_first zero top next some is = absurd (omega arith)
+  units_first (suc k) top next some is =
       let less : suc k - 1 ≡ k = omega arith in
-      rw (less, is) (units-next k top)
+      rw (less, is) (units_next k top)

@@ -18,7 +18,7 @@ use Rattle.cdf_builder_spec.specs.Calls.{lengths}
 use Rattle.cdf_builder_spec.specs.declared.Begun.{Begun}
 use Rattle.cdf_builder_runs.specs.Telling.{Tells}
 use Rattle.cdf_builder_runs.proofs.Forests.{append, ids_append, encode_append, conforms_append}
-use Rattle.cdf_builder_runs.proofs.Growing.{Frame, shut, size, size-one, heads, grow, grow-open}
+use Rattle.cdf_builder_runs.proofs.Growing.{Frame, shut, size, size_one, heads, grow, grow_open}
 use Rattle.cdf_builder_runs.proofs.Spine.{Held, Told, Spine, held_placed, held_more, told_more}
 
 -- From `written` bytes, `front`, on: these bytes were added, so that `new` bytes are written and these units are open, after the
@@ -104,10 +104,10 @@ module _ (l : Layout) (written : ℕ) (o : Begun) (os : List Begun) (rs : List R
                       (t.outside, t.inside, rw (t.parts, is) (append_assoc t.outside t.inside (unit _ ∷ [])), t.heads, t.trees);
                   trees = refl;
                 };
-                ends = rw (size-one, encode_none) (omega arith);
+                ends = rw (size_one, encode_none) (omega arith);
                 bytes = refl;
               };
               writes = λ back room.
-                  rw b (grow-open l written (nothing id) g (f ∷ fs) (had ∷ os)
+                  rw b (grow_open l written (nothing id) g (f ∷ fs) (had ∷ os)
                   (held_placed l (f ∷ fs) (shut g none) (had ∷ os) around) e back new refl room);
             }

@@ -15,18 +15,18 @@ place_after l p [] = p
 place_after l p (r ∷ rs) = place_after l (grown l p r) rs
 
 module _ (l : Layout) where
-  pub placeAfter-append : (p : BuilderPlace) (rs more : List Request) →
+  pub placeAfter_append : (p : BuilderPlace) (rs more : List Request) →
       place_after l p (rs ++ more) ≡ place_after l (place_after l p rs) more
   unfolding place_after
-  placeAfter-append p [] more = refl
-  placeAfter-append p (r ∷ rs) more = placeAfter-append (grown l p r) rs more
+  placeAfter_append p [] more = refl
+  placeAfter_append p (r ∷ rs) more = placeAfter_append (grown l p r) rs more
 
-  pub admitted-append : (p : BuilderPlace) (rs more : List Request) → Admitted l p rs → Admitted l (place_after l p rs) more →
+  pub admitted_append : (p : BuilderPlace) (rs more : List Request) → Admitted l p rs → Admitted l (place_after l p rs) more →
       Admitted l p (rs ++ more)
   unfolding place_after
-  admitted-append p [] more a b = b
-  admitted-append p (r ∷ rs) more a b = (a.0, admitted-append (grown l p r) rs more a.1 b)
+  admitted_append p [] more a b = b
+  admitted_append p (r ∷ rs) more a b = (a.0, admitted_append (grown l p r) rs more a.1 b)
 
-  pub admitted-front : (p : BuilderPlace) (rs more : List Request) → Admitted l p (rs ++ more) → Admitted l p rs
-  admitted-front p [] more a = record {}
-  admitted-front p (r ∷ rs) more a = (a.0, admitted-front (grown l p r) rs more a.1)
+  pub admitted_front : (p : BuilderPlace) (rs more : List Request) → Admitted l p (rs ++ more) → Admitted l p rs
+  admitted_front p [] more a = record {}
+  admitted_front p (r ∷ rs) more a = (a.0, admitted_front (grown l p r) rs more a.1)

@@ -41,27 +41,27 @@ right id text is =
     go false o = refl
 
 module _ (l : Layout) (os : List Begun) where
-  refused-unit : (u : Item) → known u.id ≡ true → join_number os u.id 0 ≡ 0 → action_allowed u.id u.action ≡ true →
+  refused_unit : (u : Item) → known u.id ≡ true → join_number os u.id 0 ≡ 0 → action_allowed u.id u.action ≡ true →
       right_data u.id u.text ≡ true → refused l os (unit u) 0 ≡ 0
   unfolding refused
-  refused-unit u k j a r = rw (k, a, r) j
+  refused_unit u k j a r = rw (k, a, r) j
 
   -- A unit that follows its production.
-  pub unit-asked : (id action : ℕ) (text : List ℕ) (inner : Forest) → Follows id action text inner → join_number os id 0 ≡ 0 →
+  pub unit_asked : (id action : ℕ) (text : List ℕ) (inner : Forest) → Follows id action text inner → join_number os id 0 ≡ 0 →
       refused l os (unit (record { id = id; action = action; text = text })) 0 ≡ 0
-  unit-asked id action text inner f j =
+  unit_asked id action text inner f j =
       let allowed = (acts_agree id action).0 f.acts in
-      refused-unit (record { id = id; action = action; text = text }) (acts_known id action allowed) j allowed (right id text f.says)
+      refused_unit (record { id = id; action = action; text = text }) (acts_known id action allowed) j allowed (right id text f.says)
 
-  refused-group : (g : List ℕ) → (check_of l g).number ≡ 0 → is_group (id_at l g) ≡ true → join_number os (id_at l g) 0 ≡ 0 →
+  refused_group : (g : List ℕ) → (check_of l g).number ≡ 0 → is_group (id_at l g) ≡ true → join_number os (id_at l g) 0 ≡ 0 →
       refused l os (group g) 0 ≡ 0
   unfolding refused
-  refused-group g c k j = rw (c, k) j
+  refused_group g c k j = rw (c, k) j
 
   -- The bytes of a group, which the check accepts.
-  pub group-asked : (g : List ℕ) → (check_of l g).number ≡ 0 → (id : ℕ) → id_at l g ≡ id → Among id (er_group ∷ file_group ∷ []) →
+  pub group_asked : (g : List ℕ) → (check_of l g).number ≡ 0 → (id : ℕ) → id_at l g ≡ id → Among id (er_group ∷ file_group ∷ []) →
       join_number os id 0 ≡ 0 → refused l os (group g) 0 ≡ 0
-  group-asked g c id e kind j = refused-group g c (rw e (is kind)) (rw e j)
+  group_asked g c id e kind j = refused_group g c (rw e (is kind)) (rw e j)
     where
       is : Among id (er_group ∷ file_group ∷ []) → is_group id ≡ true
       is (inl e) = rw e

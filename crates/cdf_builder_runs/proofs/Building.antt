@@ -28,23 +28,23 @@ use Rattle.cdf_builder_runs.specs.Runs.{root_item, requested, Lent, AllLent}
 use Rattle.cdf_builder_runs.specs.Building.{Building, and_then, layout, asked, count, size, first, last, finish, AllZero, Allowed, the_end}
 use Rattle.cdf_builder_runs.specs.Telling.{Tells, Whole, Begins, first_units}
 use Rattle.cdf_builder_runs.specs.Claims.{Holds, Builds}
-use Rattle.cdf_builder_runs.proofs.Answers.{first_done, run_length, run-place, run_fits, done-after, done_on}
+use Rattle.cdf_builder_runs.proofs.Answers.{first_done, run_length, run_place, run_fits, done_after, done_on}
 use Rattle.cdf_builder_runs.proofs.Forward.{forward, begins_admitted}
-use Rattle.cdf_builder_runs.proofs.Rooms.{sizes-on, run-written, Begun, begun, all_done}
+use Rattle.cdf_builder_runs.proofs.Rooms.{sizes_on, run_written, Begun, begun, all_done}
 use Rattle.cdf_builder_runs.proofs.Kept.{KeptBy, kept_start, kept_run}
 use Rattle.cdf_builder_runs.proofs.Ending.{Ended, all_ended, begins_from}
 use Rattle.cdf_builder_runs.proofs.Said.{stream_says, requested_says, told_once}
-use Rattle.cdf_builder_runs.proofs.FirstUnits.{length_says, front-first}
+use Rattle.cdf_builder_runs.proofs.FirstUnits.{length_says, front_first}
 
 -- Finish, at a place that fits.
 module _ (l : Layout) (n : ℕ) (p : BuilderPlace) (fit : fits l n p ≡ true) where
-  finish-whole : completed p.units ≡ true → finish_of l n p ≡ record { number = 0; length = p.written }
+  finish_whole : completed p.units ≡ true → finish_of l n p ≡ record { number = 0; length = p.written }
   unfolding finish_of
-  finish-whole full = rw (fit, full)
+  finish_whole full = rw (fit, full)
 
-  finish-lacks : completed p.units ≡ false → finish_of l n p ≡ record { number = 10; length = 0 }
+  finish_lacks : completed p.units ≡ false → finish_of l n p ≡ record { number = 10; length = 0 }
   unfolding finish_of
-  finish-lacks bare = rw (fit, bare)
+  finish_lacks bare = rw (fit, bare)
 
 -- The root says something.
 says_some : (t : Forest) (id : ℕ) → ids t ≡ id ∷ [] → says t ≡ [] → ⊥
@@ -89,9 +89,9 @@ module _ (b : Building) where
   abbrev l : Layout
   l = layout b
 
-  root-size : length (bytes_for l (unit (root_item b.root))) ≡ prefix_of l
+  root_size : length (bytes_for l (unit (root_item b.root))) ≡ prefix_of l
   unfolding bytes_for
-  root-size = length_unit l b.root 0 [] [] ∙ omega arith
+  root_size = length_unit l b.root 0 [] [] ∙ omega arith
 
   module _ (done : AllZero b) where
     start : Begun l b.buffer b.root (first b)
@@ -101,7 +101,7 @@ module _ (b : Building) where
     fit = rw (run_length l (first b) b.calls, start.long) at (run_fits l b.calls (first b) start.fit done)
 
     pub written : (last b).place.written ≡ size b
-    written = run-written l b.calls (first b) done ∙ rw (start.place, sizes-on, root-size)
+    written = run_written l b.calls (first b) done ∙ rw (start.place, sizes_on, root_size)
 
   module _ (lent : AllLent b.calls) (done : AllZero b) where
     kept : KeptBy l b.buffer (last b) (asked b)
@@ -119,11 +119,11 @@ module _ (b : Building) where
     ends full = all_ended l (last b).place.written (last b).place.units (asked b) front full kept.spine
 
     complete : Whole l (asked b) → completed (last b).place.units ≡ true
-    complete w = rw (run-place l (first b) b.calls done, (start done).place) (forward b.edition b.root b.calls w).2
+    complete w = rw (run_place l (first b) b.calls done, (start done).place) (forward b.edition b.root b.calls w).2
 
     -- So finish answers 0 exactly where some tree is told as a whole.
-    whole-answer : completed (last b).place.units ≡ true → finish b ≡ record { number = 0; length = size b }
-    whole-answer full = finish-whole l (length b.buffer) (last b).place (fit done) full ∙ rw (written done)
+    whole_answer : completed (last b).place.units ≡ true → finish b ≡ record { number = 0; length = size b }
+    whole_answer full = finish_whole l (length b.buffer) (last b).place (fit done) full ∙ rw (written done)
 
     full_by : (finish b).number ≡ 0 → completed (last b).place.units ≡ true
     full_by z = go (completed (last b).place.units) refl
@@ -131,26 +131,26 @@ module _ (b : Building) where
         go : (c : Bool) → completed (last b).place.units ≡ c → completed (last b).place.units ≡ true
         go true e = e
         go false e =
-            let ten = ap (λ (f : Finish). f.number) (finish-lacks l (length b.buffer) (last b).place (fit done) e) in
+            let ten = ap (λ (f : Finish). f.number) (finish_lacks l (length b.buffer) (last b).place (fit done) e) in
             absurd (omega (arith, ten, z))
 
     pub whole_by : (finish b).number ≡ 0 → Whole l (asked b)
     whole_by z = let w = ends (full_by z) in (w.told, w.grammar, w.tells)
 
     finished : (finish b ≡ record { number = 0; length = size b }) ↔ Whole l (asked b)
-    finished = (λ z. whole_by (ap (λ (f : Finish). f.number) z), λ w. whole-answer (complete w))
+    finished = (λ z. whole_by (ap (λ (f : Finish). f.number) z), λ w. whole_answer (complete w))
 
     lacking : (Whole l (asked b) → ⊥) → finish b ≡ record { number = 10; length = 0 }
     lacking bare = go (completed (last b).place.units) refl
       where
         go : (c : Bool) → completed (last b).place.units ≡ c → finish b ≡ record { number = 10; length = 0 }
         go true e = let w = ends e in absurd (bare (w.told, w.grammar, w.tells))
-        go false e = finish-lacks l (length b.buffer) (last b).place (fit done) e
+        go false e = finish_lacks l (length b.buffer) (last b).place (fit done) e
 
-    begun-front : (t : Forest) (more : List Request) → InGrammar t → Tells l t (asked b ++ more) →
+    begun_front : (t : Forest) (more : List Request) → InGrammar t → Tells l t (asked b ++ more) →
         take (size b) (last b).buffer ≡ encode l (first_units t (count b))
-    begun-front t more grammar tells =
-        rw (← written done) (front-first b.edition (last b).place.written (last b).place.units (root_item b.root) b.calls front
+    begun_front t more grammar tells =
+        rw (← written done) (front_first b.edition (last b).place.written (last b).place.units (root_item b.root) b.calls front
         kept.spine t more grammar tells)
 
     holds : (t : Forest) → InGrammar t → Tells l t (asked b) → Holds l (take (finish b).length (last b).buffer) t (asked b)
@@ -159,7 +159,7 @@ module _ (b : Building) where
         let w = ends full in
         let same : w.told ≡ t = told_once b.edition w.told t (asked b) w.grammar grammar w.tells tells in
         let limit = (fitting l (length b.buffer) (last b).place (fit done)).limit in
-        rw (finish-whole l (length b.buffer) (last b).place (fit done) full)
+        rw (finish_whole l (length b.buffer) (last b).place (fit done) full)
         (stream_holds b.edition front t (asked b)
         (record { tree = grammar; within = simp length-take (omega (arith, limit)); bytes = sym (w.bytes ∙ ap (encode l) same) }) tells)
 
@@ -168,10 +168,10 @@ module _ (b : Building) where
       let all = all_done b.edition b.buffer b.root b.calls in (
         λ done.
             let room = all.0 done in
-            (begins lent done, rw (sizes-on, root-size) room.2, rw (sizes-on, root-size) room.3),
+            (begins lent done, rw (sizes_on, root_size) room.2, rw (sizes_on, root_size) room.3),
         λ w.
             let may = begins_admitted b.edition b.root b.calls w.0 in
-            all.1 (may.0, may.1, rw (sizes-on, root-size) at w.1, rw (sizes-on, root-size) at w.2),
+            all.1 (may.0, may.1, rw (sizes_on, root_size) at w.1, rw (sizes_on, root_size) at w.2),
       )
 
 pub builds : (b : Building) → AllLent b.calls → AllZero b → Builds b
@@ -180,9 +180,9 @@ builds b lent done = record {
       let l = layout b in
       let all = accepted (and_then b (r ∷ [])) (lent_on b.calls r lent more) in (
         λ z. all.0 (done_on l (first b) b.calls r done z),
-        λ w. (done-after l (first b) b.calls (r ∷ []) (all.1 w)).1,
+        λ w. (done_after l (first b) b.calls (r ∷ []) (all.1 w)).1,
       );
-  begun = begun-front b lent done;
+  begun = begun_front b lent done;
   behind = rw (← written b done) (kept b lent done).behind;
   finished = finished b lent done;
   lacking = lacking b lent done;

@@ -18,10 +18,10 @@ use Rattle.cdf_builder_spec.specs.Requests.{Request, unit}
 use Rattle.cdf_builder_spec.specs.declared.Begun.{Begun}
 use Rattle.cdf_builder_runs.specs.Runs.{requested}
 use Rattle.cdf_builder_runs.specs.Telling.{Tells, first_units}
-use Rattle.cdf_builder_runs.proofs.Growing.{shut_all, shut-all}
+use Rattle.cdf_builder_runs.proofs.Growing.{shut_all, shut_all_lem}
 use Rattle.cdf_builder_runs.proofs.Spine.{Spine}
 use Rattle.cdf_builder_runs.proofs.Said.{requested_unit, requested_append, requested_says}
-use Rattle.cdf_builder_runs.proofs.Low.{all-low, all_told}
+use Rattle.cdf_builder_runs.proofs.Low.{all_low, all_told}
 
 pub length_says : (f : Forest) → length (says f) ≡ units f
 unfolding says units
@@ -83,20 +83,20 @@ module _ (e : Edition) (w : ℕ) (os : List Begun) (u : Item) (rs : List Request
   abbrev trees : Forest
   trees = shut_all s.frames s.kids
 
-  says-said : says (first_units t (length said)) ≡ said
-  says-said =
+  says_said : says (first_units t (length said)) ≡ said
+  says_said =
       says_first t (length said)
       ∙ ap (take (length said)) (requested_says e t (unit u ∷ (rs ++ more)) tells ∙ requested_append l (unit u ∷ rs) more)
       ∙ take-append_seam said (requested l more)
 
   one : trees ≡ first_units t (length said)
   one =
-      let a = all-low l s.frames s.kids os s.held (low l s.kids (fits l s.kids s.conforms)) in
+      let a = all_low l s.frames s.kids os s.held (low l s.kids (fits l s.kids s.conforms)) in
       let root = (root_agrees t).0 grammar.root in
       let some : length said ≡ suc (length (requested l rs)) = ap length (requested_unit l u rs) in
       let alone = rw (← some) at (first_root t root.0 (length (requested l rs)) root.1) in
       said_low trees (first_units t (length said)) a.0 (first_low t (length said) (low l t (fits l t grammar.conforms))) a.1.1 alone
-      (requested_says e trees (unit u ∷ rs) (all_told l s.frames s.kids (unit u ∷ rs) s.told) ∙ sym says-said)
+      (requested_says e trees (unit u ∷ rs) (all_told l s.frames s.kids (unit u ∷ rs) s.told) ∙ sym says_said)
 
-  pub front-first : front ≡ encode l (first_units t (length said))
-  front-first = s.bytes ∙ shut-all l w s.frames s.kids s.ends ∙ ap (encode l) one
+  pub front_first : front ≡ encode l (first_units t (length said))
+  front_first = s.bytes ∙ shut_all_lem l w s.frames s.kids s.ends ∙ ap (encode l) one

@@ -10,7 +10,7 @@ use Rattle.cdf_unit_prefix.specs.Layout.{Layout, prefix_of}
 use Rattle.cdf_grammar.specs.Trees.{Forest, none, tree}
 use Rattle.cdf_grammar.specs.Encoding.{bytes_of, prefix_bytes, encode}
 use Rattle.cdf_grammar.proofs.Numbers.{length_bytes_lem}
-use Rattle.cdf_grammar.proofs.Prefixes.{length-prefix}
+use Rattle.cdf_grammar.proofs.Prefixes.{length_prefix}
 use Rattle.cdf_grammar.proofs.Built.{encode_none, encode_tree, unit_is, length_unit}
 use Rattle.cdf_builder_write.specs.Patch.{patch}
 use Rattle.cdf_builder_write.proofs.Patching.{patch_in}
@@ -49,24 +49,24 @@ module _ (l : Layout) where
   abbrev pub start_in : List Frame → Frame → ℕ
   start_in fs f = size fs + length (encode l f.before)
 
-  pub size-one : (f : Frame) (fs : List Frame) → size (f ∷ fs) ≡ start_in fs f + (prefix_of l + length f.text)
+  pub size_one : (f : Frame) (fs : List Frame) → size (f ∷ fs) ≡ start_in fs f + (prefix_of l + length f.text)
   unfolding size
-  size-one f fs = omega arith
+  size_one f fs = omega arith
 
   -- The bytes of open units that end at w, up to what the innermost has had.
   unfoldable pub heads : ℕ → List Frame → List ℕ
   heads w [] = []
   heads w (f ∷ fs) = heads w fs ++ frame_bytes (w - start_in fs f) f
 
-  length-frame : (len : ℕ) (f : Frame) → length (frame_bytes len f) ≡ length (encode l f.before) + (prefix_of l + length f.text)
+  length_frame : (len : ℕ) (f : Frame) → length (frame_bytes len f) ≡ length (encode l f.before) + (prefix_of l + length f.text)
   unfolding frame_bytes
-  length-frame len f = simp (length-append, length-prefix)
+  length_frame len f = simp (length-append, length_prefix)
 
-  pub length-heads : (w : ℕ) (fs : List Frame) → length (heads w fs) ≡ size fs
+  pub length_heads : (w : ℕ) (fs : List Frame) → length (heads w fs) ≡ size fs
   unfolding heads size
-  length-heads w [] = refl
-  length-heads w (f ∷ fs) =
-      rw (length-append (heads w fs) (frame_bytes (w - start_in fs f) f), length-heads w fs, length-frame (w - start_in fs f) f)
+  length_heads w [] = refl
+  length_heads w (f ∷ fs) =
+      rw (length-append (heads w fs) (frame_bytes (w - start_in fs f) f), length_heads w fs, length_frame (w - start_in fs f) f)
 
   -- The open units start where the builder's place says.
   abbrev pub Placed : List Frame → List Begun → Type 0
@@ -76,19 +76,19 @@ module _ (l : Layout) where
   Placed (f ∷ fs) (o ∷ os) = (o.start ≡ start_in fs f) × Placed fs os
 
   -- The length of one open unit, with bytes before and behind it.
-  frame-parts : (len : ℕ) (f : Frame) (a z : List ℕ) →
+  frame_parts : (len : ℕ) (f : Frame) (a z : List ℕ) →
       a ++ (frame_bytes len f ++ z)
       ≡ (a ++ (encode l f.before ++ (0xcd ∷ l.mark ∷ []))) ++ (bytes_of l.length_bytes len ++ ((f.action ∷ f.id ∷ f.text) ++ z))
   unfolding frame_bytes prefix_bytes
-  frame-parts len f a z = simp append_assoc
+  frame_parts len f a z = simp append_assoc
 
-  relength-one : (len new : ℕ) (f : Frame) (a z : List ℕ) →
+  relength_one : (len new : ℕ) (f : Frame) (a z : List ℕ) →
       patch (length a + length (encode l f.before) + 2) (bytes_of l.length_bytes new) (a ++ (frame_bytes len f ++ z))
       ≡ a ++ (frame_bytes new f ++ z)
-  relength-one len new f a z =
+  relength_one len new f a z =
       let front = a ++ (encode l f.before ++ (0xcd ∷ l.mark ∷ [])) in
       let at : length a + length (encode l f.before) + 2 ≡ length front = simp length-append (omega arith) in
-      rw (at, frame-parts len f a z, frame-parts new f a z)
+      rw (at, frame_parts len f a z, frame_parts new f a z)
       (patch_in front (bytes_of l.length_bytes len) ((f.action ∷ f.id ∷ f.text) ++ z) (bytes_of l.length_bytes new)
       (length_bytes_lem l.length_bytes len ∙ sym (length_bytes_lem l.length_bytes new)))
 
@@ -101,7 +101,7 @@ module _ (l : Layout) where
   relength w new (f ∷ fs) [] z p = absurd p
   relength w new (f ∷ fs) (o ∷ os) z (at, around) =
       let len = w - start_in fs f in
-      let same : o.start + 2 ≡ length (heads new fs) + length (encode l f.before) + 2 = omega (arith, length-heads new fs) in
+      let same : o.start + 2 ≡ length (heads new fs) + length (encode l f.before) + 2 = omega (arith, length_heads new fs) in
       rw (
         append_assoc (heads w fs) (frame_bytes len f) z,
         relength w new fs os (frame_bytes len f ++ z) around,
@@ -109,12 +109,12 @@ module _ (l : Layout) where
         at,
         append_assoc (heads new fs) (frame_bytes (new - start_in fs f) f) z,
       )
-      (relength-one len (new - start_in fs f) f (heads new fs) z)
+      (relength_one len (new - start_in fs f) f (heads new fs) z)
 
-  encode-shut : (f : Frame) (kids : Forest) →
+  encode_shut : (f : Frame) (kids : Forest) →
       encode l (shut f kids) ≡ frame_bytes (prefix_of l + (length f.text + length (encode l kids))) f ++ encode l kids
   unfolding frame_bytes
-  encode-shut f kids = rw (encode_append l, encode_tree l, encode_none, append-nil, unit_is l) (simp append_assoc)
+  encode_shut f kids = rw (encode_append l, encode_tree l, encode_none, append-nil, unit_is l) (simp append_assoc)
 
   -- The innermost open unit ends here.
   pub shut_one : (w : ℕ) (f : Frame) (fs : List Frame) (kids : Forest) → w ≡ size (f ∷ fs) + length (encode l kids) →
@@ -123,16 +123,16 @@ module _ (l : Layout) where
   shut_one w f fs kids e =
       let inside = length (encode l kids) in
       let len : w - start_in fs f ≡ prefix_of l + (length f.text + inside) = omega arith in (
-        rw (len, encode-shut f kids) (append_assoc (heads w fs) (frame_bytes (prefix_of l + (length f.text + inside)) f) (encode l kids)),
-        rw (encode-shut f kids, length-append, length-frame) (omega arith),
+        rw (len, encode_shut f kids) (append_assoc (heads w fs) (frame_bytes (prefix_of l + (length f.text + inside)) f) (encode l kids)),
+        rw (encode_shut f kids, length-append, length_frame) (omega arith),
       )
 
   -- All of them do.
-  pub shut-all : (w : ℕ) (fs : List Frame) (kids : Forest) → w ≡ size fs + length (encode l kids) →
+  pub shut_all_lem : (w : ℕ) (fs : List Frame) (kids : Forest) → w ≡ size fs + length (encode l kids) →
       heads w fs ++ encode l kids ≡ encode l (shut_all fs kids)
   unfolding heads size shut_all
-  shut-all w [] kids e = refl
-  shut-all w (f ∷ fs) kids e = let one = shut_one w f fs kids e in one.0 ∙ shut-all w fs (shut f kids) one.1
+  shut_all_lem w [] kids e = refl
+  shut_all_lem w (f ∷ fs) kids e = let one = shut_one w f fs kids e in one.0 ∙ shut_all_lem w fs (shut f kids) one.1
 
   -- The open units, with these trees in the innermost, and what stands behind them. They end at w.
   module _ (w : ℕ) (fs : List Frame) (os : List Begun) (kids : Forest) (placed : Placed fs os)
@@ -148,7 +148,7 @@ module _ (l : Layout) where
           let front = heads w fs ++ encode l kids in
           let old = take (length added) back in
           let rest = drop (length added) back in
-          let at : length front ≡ w = rw (length-append, length-heads w fs) (sym ends) in
+          let at : length front ≡ w = rw (length-append, length_heads w fs) (sym ends) in
           let put : patch w added (front ++ back) ≡ front ++ (added ++ rest) =
           rw (take-append-drop, at) at (patch_in front old rest added (length-take-le (length added) back room)) in
           rw (put, append_assoc (heads w fs) (encode l kids) (added ++ rest), encode_append l kids x)
@@ -160,11 +160,11 @@ module _ (l : Layout) where
     abbrev leaf : Forest
     leaf = tree f.id f.action f.text none none
 
-    pub grow-open : (new : ℕ) → new ≡ w + length (encode l leaf) → length (encode l leaf) ≤ length back →
+    pub grow_open : (new : ℕ) → new ≡ w + length (encode l leaf) → length (encode l leaf) ≤ length back →
         lengths l new (record { state = state; start = w } ∷ os) (patch w (encode l leaf) ((heads w fs ++ encode l f.before) ++ back))
         ≡ (heads new (f ∷ fs) ++ encode l none) ++ drop (length (encode l leaf)) back
     unfolding heads size
-    grow-open new e room =
+    grow_open new e room =
         let rest = drop (length (encode l leaf)) back in
         let len = new - start_in fs f in
         let size-leaf : length (encode l leaf) ≡ prefix_of l + (length f.text + 0) =
@@ -172,10 +172,10 @@ module _ (l : Layout) where
         let one = (shut_one new f fs none (rw encode_none (omega arith))).0 in
         let grown = rw (← e) at (grow w fs os f.before placed ends back leaf room) in
         let same : new - w ≡ len = omega arith in
-        let at : w + 2 ≡ length (heads new fs) + length (encode l f.before) + 2 = omega (arith, length-heads new fs) in
+        let at : w + 2 ≡ length (heads new fs) + length (encode l f.before) + 2 = omega (arith, length_heads new fs) in
         let written : (heads new fs ++ encode l (append f.before leaf)) ++ rest ≡ heads new fs ++ (frame_bytes len f ++ rest) =
         rw (← one, encode_none) (simp (append-nil, append_assoc)) in
         let done : heads new fs ++ (frame_bytes len f ++ rest) ≡ (heads new (f ∷ fs) ++ encode l none) ++ rest =
         rw encode_none (simp (append-nil, append_assoc)) in
         lengths_one l new (record { state = state; start = w }) os _
-        ∙ (rw (grown, written, same, at) (relength-one len len f (heads new fs) rest ∙ done))
+        ∙ (rw (grown, written, same, at) (relength_one len len f (heads new fs) rest ∙ done))

@@ -25,11 +25,11 @@ use Rattle.cdf_builder_spec.specs.Place.{BuilderPlace}
 use Rattle.cdf_builder_spec.specs.Requests.{Request, unit, bytes_for, grown}
 use Rattle.cdf_builder_spec.specs.declared.Begun.{Begun}
 use Rattle.cdf_builder_spec.specs.Calls.{Reply, lengths, start_of, start_number}
-use Rattle.cdf_builder_spec.proofs.Replying.{grown_written, start_zero, start-number, start-done}
+use Rattle.cdf_builder_spec.proofs.Replying.{grown_written, start_zero, start_number_lem, start_done}
 use Rattle.cdf_builder_runs.specs.Runs.{root_item, answer, run, AllDone, Lent, AllLent}
-use Rattle.cdf_builder_runs.proofs.Answers.{answer-called, answer-place, answer-buffer, first_done}
+use Rattle.cdf_builder_runs.proofs.Answers.{answer_called, answer_place, answer_buffer, first_done}
 use Rattle.cdf_builder_runs.proofs.Forests.{append}
-use Rattle.cdf_builder_runs.proofs.Growing.{Frame, size, frame_bytes, heads, length-heads, relength}
+use Rattle.cdf_builder_runs.proofs.Growing.{Frame, size, frame_bytes, heads, length_heads, relength}
 use Rattle.cdf_builder_runs.proofs.Spine.{Spine, held_placed}
 use Rattle.cdf_builder_runs.proofs.Adding.{Step}
 use Rattle.cdf_builder_runs.proofs.Taken.{take_step}
@@ -54,15 +54,15 @@ module _ (l : Layout) (id : ℕ) (kind : root_kind id ≡ true) where
   abbrev root_bytes : List ℕ
   root_bytes = unit_bytes l id 0 [] []
 
-  root-bytes : root_bytes ≡ heads l (prefix_of l) (root_frame ∷ []) ++ encode l none
+  root_bytes_lem : root_bytes ≡ heads l (prefix_of l) (root_frame ∷ []) ++ encode l none
   unfolding heads frame_bytes size
-  root-bytes =
+  root_bytes_lem =
       let len : prefix_of l - (0 + length {A = ℕ} []) ≡ prefix_of l + (0 + 0) = omega arith in
       rw (unit_is, encode_none, len) (simp append-nil)
 
-  root-spine : Spine l (prefix_of l) (record { state = nothing id; start = 0 } ∷ []) (unit (root_item id) ∷ []) root_bytes
+  root_spine : Spine l (prefix_of l) (record { state = nothing id; start = 0 } ∷ []) (unit (root_item id) ∷ []) root_bytes
   unfolding size ids through append
-  root-spine =
+  root_spine =
       let blank = root_blank id kind in
       record {
         frames = root_frame ∷ [];
@@ -82,7 +82,7 @@ module _ (l : Layout) (id : ℕ) (kind : root_kind id ≡ true) where
         conforms = record {};
         told = record { outside = unit (root_item id) ∷ []; inside = []; parts = refl; heads = ([], [], refl, refl, refl); trees = refl };
         ends = rw encode_none (omega arith);
-        bytes = root-bytes;
+        bytes = root_bytes_lem;
       }
 
 -- Bytes at the front, and what is behind them.
@@ -91,20 +91,20 @@ front_put new s h =
     rw take-append-drop at (patch_in [] (take (length new) s) (drop (length new) s) new (length-take-le (length new) s h))
 
 front_length : (l : Layout) (w : ℕ) (os : List Begun) (rs : List Request) (front : List ℕ) → Spine l w os rs front → length front ≡ w
-front_length l w os rs front s = rw (s.bytes, length-append, length-heads) (sym s.ends)
+front_length l w os rs front s = rw (s.bytes, length-append, length_heads) (sym s.ends)
 
 -- Of a reply.
 abbrev pub KeptBy : Layout → List ℕ → Reply → List Request → Type 0
 KeptBy l s a rs = Kept l s a.place a.buffer rs
 
 pub kept_start : (l : Layout) (s : List ℕ) (id : ℕ) → (start_of l s id).number ≡ 0 → KeptBy l s (start_of l s id) (unit (root_item id) ∷ [])
-kept_start l s id e = rw (start-done l s id zero, put) (record {
-  spine = rw (take_at (unit_bytes l id 0 [] []) (drop (prefix_of l) s) (prefix_of l) long) (root-spine l id may.0);
+kept_start l s id e = rw (start_done l s id zero, put) (record {
+  spine = rw (take_at (unit_bytes l id 0 [] []) (drop (prefix_of l) s) (prefix_of l) long) (root_spine l id may.0);
   behind = drop_at (unit_bytes l id 0 [] []) (drop (prefix_of l) s) (prefix_of l) long;
 })
   where
     zero : start_number l (length s) id ≡ 0
-    zero = sym (start-number l s id) ∙ e
+    zero = sym (start_number_lem l s id) ∙ e
 
     may : (root_kind id ≡ true) × (prefix_of l ≤ length s)
     may = (start_zero l (length s) id).0 zero
@@ -143,9 +143,9 @@ kept_call : (e : Edition) (s : List ℕ) (a : Reply) (rs : List Request) (r : Re
     (answer (layout_of e) a r).number ≡ 0 → KeptBy (layout_of e) s (answer (layout_of e) a r) (rs ++ (r ∷ []))
 kept_call e s a rs r lent k zero =
     let l = layout_of e in
-    let may = answer-called l a r zero in
+    let may = answer_called l a r zero in
     let step = take_step e a.place rs (take a.place.written a.buffer) k.spine r lent may.0 in
-    rw (answer-place l a r zero, answer-buffer l a r zero) (kept_step l s a.place a.buffer rs k r may.2 step)
+    rw (answer_place l a r zero, answer_buffer l a r zero) (kept_step l s a.place a.buffer rs k r may.2 step)
 
 -- Calls that are all done.
 pub kept_run : (e : Edition) (s : List ℕ) (a : Reply) (rs more : List Request) → AllLent more → KeptBy (layout_of e) s a rs →

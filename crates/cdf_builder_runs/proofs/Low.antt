@@ -26,24 +26,24 @@ low_append (tree id action text inner rest) g (p, within, after) b = (p, within,
 
 module _ (l : Layout) where
   -- The units in an open unit are of one height,
-  had-height : (fs : List Frame) (f : Frame) (kids : Forest) (o : Begun) → HeldUnit l fs f kids o → OfHeight (level f.id) (ids kids)
-  had-height fs f kids o u =
+  had_height : (fs : List Frame) (f : Frame) (kids : Forest) (o : Begun) → HeldUnit l fs f kids o → OfHeight (level f.id) (ids kids)
+  had_height fs f kids o u =
       rw (opens_lower f.id u.parent).own at (through_height (nothing f.id) (ids kids) (λ z. u.some (u.state ∙ z)))
 
   -- lower than its own.
-  shut-low : (fs : List Frame) (f : Frame) (kids : Forest) (o : Begun) → HeldUnit l fs f kids o → Low kids → Low (shut f kids)
-  shut-low fs f kids o u k =
+  shut_low : (fs : List Frame) (f : Frame) (kids : Forest) (o : Begun) → HeldUnit l fs f kids o → Low kids → Low (shut f kids)
+  shut_low fs f kids o u k =
       let id = f.id in
-      let inside = lower (level id) (height id) (ids kids) (opens_lower id u.parent).lower (had-height fs f kids o u) in
+      let inside = lower (level id) (height id) (ids kids) (opens_lower id u.parent).lower (had_height fs f kids o u) in
       low_append f.before (tree id f.action f.text kids none) (low l f.before (fits l f.before u.before)) (inside, k, record {})
 
-  pub all-low : (fs : List Frame) (kids : Forest) (os : List Begun) → Held l fs kids os → Low kids →
+  pub all_low : (fs : List Frame) (kids : Forest) (os : List Begun) → Held l fs kids os → Low kids →
       Low (shut_all fs kids) × ((id : ℕ) × (ids (shut_all fs kids) ≡ id ∷ []))
   unfolding shut_all
-  all-low [] kids [] h k = (k, (h.0, h.1))
-  all-low [] kids (o ∷ os) h k = absurd h
-  all-low (f ∷ fs) kids [] h k = absurd h
-  all-low (f ∷ fs) kids (o ∷ os) (u, around) k = all-low fs (shut f kids) os around (shut-low fs f kids o u k)
+  all_low [] kids [] h k = (k, (h.0, h.1))
+  all_low [] kids (o ∷ os) h k = absurd h
+  all_low (f ∷ fs) kids [] h k = absurd h
+  all_low (f ∷ fs) kids (o ∷ os) (u, around) k = all_low fs (shut f kids) os around (shut_low fs f kids o u k)
 
   pub all_told : (fs : List Frame) (kids : Forest) (rs : List Request) → Told l fs kids rs → Tells l (shut_all fs kids) rs
   unfolding shut_all

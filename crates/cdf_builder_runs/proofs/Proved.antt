@@ -43,10 +43,10 @@ module _ (l : Layout) where
   same_answer : (a b : Reply) (r : Request) → a.place ≡ b.place → a.buffer ≡ b.buffer → answer l a r ≡ answer l b r
   same_answer a b r p s = rw (p, s)
 
-  same-run : (a b : Reply) (rs : List Request) → Alike a b → Alike (run l a rs) (run l b rs)
+  same_run : (a b : Reply) (rs : List Request) → Alike a b → Alike (run l a rs) (run l b rs)
   unfolding run
-  same-run a b [] e = e
-  same-run a b (r ∷ rs) e =
+  same_run a b [] e = e
+  same_run a b (r ∷ rs) e =
       let same = same_answer a b r e.0 e.1 in
       (ap (λ (c : Reply). (run l c rs).place) same, ap (λ (c : Reply). (run l c rs).buffer) same)
 
@@ -62,7 +62,7 @@ module _ (l : Layout) where
           × Alike (run l (answer l a r) rs) (run l a (cond b (r ∷ done l (answer l a r) rs) (done l a rs)))
       go true e stay on = let w = on (eqb-true (answer l a r).number 0 e) in ((z, w.0), w.1)
       go false e stay on =
-          let same = same-run (answer l a r) a rs (stays a r e) in
+          let same = same_run (answer l a r) a rs (stays a r e) in
           (stay.0, (same.0 ∙ stay.1.0, same.1 ∙ stay.1.1))
 
 pub proved : Claims

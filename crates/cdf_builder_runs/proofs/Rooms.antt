@@ -15,62 +15,62 @@ use Rattle.cdf_builder_spec.specs.Place.{BuilderPlace}
 use Rattle.cdf_builder_spec.specs.Requests.{Request, bytes_for}
 use Rattle.cdf_builder_spec.specs.Calls.{Reply, start_of}
 use Rattle.cdf_builder_spec.proofs.Fitting.{fitting}
-use Rattle.cdf_builder_spec.proofs.Replying.{root_place, grown_written, start_zero, start-number, start-done, call-zero, call-number}
+use Rattle.cdf_builder_spec.proofs.Replying.{root_place, grown_written, start_zero, start_number_lem, start_done, call_zero, call_number_lem}
 use Rattle.cdf_builder_spec.proofs.Keeping.{start_fits}
 use Rattle.cdf_builder_runs.specs.Runs.{answer, run, AllDone, sizes}
 use Rattle.cdf_builder_runs.proofs.Admitted.{Admitted}
-use Rattle.cdf_builder_runs.proofs.Answers.{Fit, answer-called, answer-fits, answer-place, answer-length, first_done}
+use Rattle.cdf_builder_runs.proofs.Answers.{Fit, answer_called, answer_fits, answer_place, answer_length, first_done}
 
 module _ (l : Layout) where
   -- What is written, with the bytes of these requests, is within the limit and the buffer.
   abbrev Roomy : Reply → List Request → Type 0
   Roomy a rs = (a.place.written + sizes l rs ≤ l.limit) × (a.place.written + sizes l rs ≤ length a.buffer)
 
-  pub sizes-on : (r : Request) (rs : List Request) → sizes l (r ∷ rs) ≡ length (bytes_for l r) + sizes l rs
+  pub sizes_on : (r : Request) (rs : List Request) → sizes l (r ∷ rs) ≡ length (bytes_for l r) + sizes l rs
   unfolding sizes
-  sizes-on r rs = refl
+  sizes_on r rs = refl
 
-  pub sizes-end : sizes l [] ≡ 0
+  pub sizes_end : sizes l [] ≡ 0
   unfolding sizes
-  sizes-end = refl
+  sizes_end = refl
 
   module _ (a : Reply) (r : Request) (done : (answer l a r).number ≡ 0) where
     answer_written : (answer l a r).place.written ≡ a.place.written + length (bytes_for l r)
-    answer_written = ap (λ (q : BuilderPlace). q.written) (answer-place l a r done) ∙ grown_written l a.place r
+    answer_written = ap (λ (q : BuilderPlace). q.written) (answer_place l a r done) ∙ grown_written l a.place r
 
     -- The same bytes have room after the call as with it.
-    roomy-on : (rs : List Request) → Roomy (answer l a r) rs ↔ Roomy a (r ∷ rs)
-    roomy-on rs =
+    roomy_on : (rs : List Request) → Roomy (answer l a r) rs ↔ Roomy a (r ∷ rs)
+    roomy_on rs =
         let same = answer_written in
-        let all = sizes-on r rs in
-        let long = answer-length l a r in
+        let all = sizes_on r rs in
+        let long = answer_length l a r in
         (λ w. (omega (arith, w.0), omega (arith, w.1)), λ w. (omega (arith, w.0), omega (arith, w.1)))
 
-  pub run-written : (rs : List Request) (a : Reply) → AllDone l a rs → (run l a rs).place.written ≡ a.place.written + sizes l rs
+  pub run_written : (rs : List Request) (a : Reply) → AllDone l a rs → (run l a rs).place.written ≡ a.place.written + sizes l rs
   unfolding run
-  run-written [] a d = omega (arith, sizes-end)
-  run-written (r ∷ rs) a d =
+  run_written [] a d = omega (arith, sizes_end)
+  run_written (r ∷ rs) a d =
       let next = answer_written a r (first_done l (answer l a r) rs d.1) in
-      omega (arith, run-written rs (answer l a r) d.1, next, sizes-on r rs)
+      omega (arith, run_written rs (answer l a r) d.1, next, sizes_on r rs)
 
   -- From a reply whose place fits: all is done, if all is admitted and has room, and only then.
-  done-admitted : (rs : List Request) (a : Reply) → Fit l a → AllDone l a rs → Admitted l a.place rs × Roomy a rs
-  done-admitted [] a fit d =
+  done_admitted : (rs : List Request) (a : Reply) → Fit l a → AllDone l a rs → Admitted l a.place rs × Roomy a rs
+  done_admitted [] a fit d =
       let f = fitting l (length a.buffer) a.place fit in
-      (record {}, (omega (arith, sizes-end, f.limit), omega (arith, sizes-end, f.within)))
-  done-admitted (r ∷ rs) a fit d =
+      (record {}, (omega (arith, sizes_end, f.limit), omega (arith, sizes_end, f.within)))
+  done_admitted (r ∷ rs) a fit d =
       let done = first_done l (answer l a r) rs d.1 in
-      let w = done-admitted rs (answer l a r) (answer-fits l a r done) d.1 in
-      (((answer-called l a r done).0, rw (answer-place l a r done) at w.0), (roomy-on a r done rs).0 w.1)
+      let w = done_admitted rs (answer l a r) (answer_fits l a r done) d.1 in
+      (((answer_called l a r done).0, rw (answer_place l a r done) at w.0), (roomy_on a r done rs).0 w.1)
 
-  pub admitted-done : (rs : List Request) (a : Reply) → a.number ≡ 0 → Fit l a → Admitted l a.place rs → Roomy a rs → AllDone l a rs
-  admitted-done [] a e fit all room = e
-  admitted-done (r ∷ rs) a e fit all room =
-      let size = sizes-on r rs in
+  pub admitted_done : (rs : List Request) (a : Reply) → a.number ≡ 0 → Fit l a → Admitted l a.place rs → Roomy a rs → AllDone l a rs
+  admitted_done [] a e fit all room = e
+  admitted_done (r ∷ rs) a e fit all room =
+      let size = sizes_on r rs in
       let done : (answer l a r).number ≡ 0 =
-      call-number l a.buffer a.place r
-      ∙ (call-zero l (length a.buffer) a.place r fit).1 (all.0, omega (arith, room.0), omega (arith, room.1)) in
-      (e, admitted-done rs (answer l a r) done (answer-fits l a r done) (rw (answer-place l a r done) all.1) ((roomy-on a r done rs).1 room))
+      call_number_lem l a.buffer a.place r
+      ∙ (call_zero l (length a.buffer) a.place r fit).1 (all.0, omega (arith, room.0), omega (arith, room.1)) in
+      (e, admitted_done rs (answer l a r) done (answer_fits l a r done) (rw (answer_place l a r done) all.1) ((roomy_on a r done rs).1 room))
 
   -- A start with this id and these requests are admitted, and all their bytes have room in a buffer of n.
   abbrev pub Room : ℕ → ℕ → List Request → Type 0
@@ -87,7 +87,7 @@ pub begun : (e : Edition) (s : List ℕ) (id : ℕ) → (start_of (layout_of e) 
     Begun (layout_of e) s id (start_of (layout_of e) s id)
 begun e s id done =
     let l = layout_of e in
-    let is = start-done l s id (sym (start-number l s id) ∙ done) in
+    let is = start_done l s id (sym (start_number_lem l s id) ∙ done) in
     record {
       fit = start_fits e s id done;
       place = rw is;
@@ -103,12 +103,12 @@ all_done e s id rs =
           let done = first_done l a rs d in
           let b = begun e s id done in
           let same = ap (λ (q : BuilderPlace). q.written) b.place in
-          let w = done-admitted l rs a b.fit d in
-          let root = ((start_zero l (length s) id).0 (sym (start-number l s id) ∙ done)).0 in
+          let w = done_admitted l rs a b.fit d in
+          let root = ((start_zero l (length s) id).0 (sym (start_number_lem l s id) ∙ done)).0 in
           (root, rw b.place at w.0, omega (arith, w.1.0, same), omega (arith, w.1.1, same, b.long)),
       λ w.
-          let done = start-number l s id ∙ (start_zero l (length s) id).1 (w.0, omega (arith, w.3)) in
+          let done = start_number_lem l s id ∙ (start_zero l (length s) id).1 (w.0, omega (arith, w.3)) in
           let b = begun e s id done in
           let same = ap (λ (q : BuilderPlace). q.written) b.place in
-          admitted-done l rs a done b.fit (rw b.place w.1) (omega (arith, w.2, same), omega (arith, w.3, same, b.long)),
+          admitted_done l rs a done b.fit (rw b.place w.1) (omega (arith, w.2, same), omega (arith, w.3, same, b.long)),
     )

@@ -55,6 +55,6 @@ module _ (id : ℕ) (o : Begun) (os : List Begun) (some : admit o.state id ≡ 0
   ends = rw (joins_over xs o os id (none_admits id xs a) some).1 (rw append-nil at (shut_completed (height id) xs [] a refl))
 
   -- and is not refused for where it joins.
-  pub joined-on : (next : ℕ) → join_number (xs ++ (o ∷ os)) id next ≡ next
+  pub joined_on : (next : ℕ) → join_number (xs ++ (o ∷ os)) id next ≡ next
   unfolding join_number
-  joined-on next = rw (joins, ends, ne_eqb (length (o ∷ os)) 0 (λ z. omega arith))
+  joined_on next = rw (joins, ends, ne_eqb (length (o ∷ os)) 0 (λ z. omega arith))

@@ -48,48 +48,48 @@ module _ (l : Layout) (p : BuilderPlace) (o : Begun) (outer : List Begun) where
   abbrev had_by : ℕ → List Begun
   had_by id = record { state = admit o.state id; start = o.start } ∷ outer
 
-  pub units-open : (u : Item) → opens u.id ≡ true → joining u.id p.units ≡ o ∷ outer →
+  pub units_open : (u : Item) → opens u.id ≡ true → joining u.id p.units ≡ o ∷ outer →
       (grown l p (unit u)).units ≡ record { state = nothing u.id; start = p.written } ∷ had_by u.id
   unfolding id_of
-  units-open u e j = grown_by l p (unit u) o outer j ∙ rw (entering_unit p.written u, e)
+  units_open u e j = grown_by l p (unit u) o outer j ∙ rw (entering_unit p.written u, e)
 
-  units-leaf : (u : Item) → opens u.id ≡ false → joining u.id p.units ≡ o ∷ outer → (grown l p (unit u)).units ≡ had_by u.id
+  units_leaf : (u : Item) → opens u.id ≡ false → joining u.id p.units ≡ o ∷ outer → (grown l p (unit u)).units ≡ had_by u.id
   unfolding id_of
-  units-leaf u e j = grown_by l p (unit u) o outer j ∙ rw (entering_unit p.written u, e)
+  units_leaf u e j = grown_by l p (unit u) o outer j ∙ rw (entering_unit p.written u, e)
 
-  pub units-group : (g : List ℕ) → joining (id_at l g) p.units ≡ o ∷ outer → (grown l p (group g)).units ≡ had_by (id_at l g)
+  pub units_group : (g : List ℕ) → joining (id_at l g) p.units ≡ o ∷ outer → (grown l p (group g)).units ≡ had_by (id_at l g)
   unfolding id_of
-  units-group g j = grown_by l p (group g) o outer j ∙ rw (entering_group p.written g)
+  units_group g j = grown_by l p (group g) o outer j ∙ rw (entering_group p.written g)
 
 -- The step that a request comes to.
 abbrev pub StepBy : Layout → BuilderPlace → List Request → List ℕ → Request → Type 0
 StepBy l p rs front r = Step l p.written front (bytes_for l r) (grown l p r).written (grown l p r).units (rs ++ (r ∷ []))
 
 module _ (l : Layout) (p : BuilderPlace) (rs : List Request) (front : List ℕ) (spine : Spine l p.written p.units rs front) where
-  unit-step : (u : Item) → UnitPassed p.units u → (b : Bool) → opens u.id ≡ b → StepBy l p rs front (unit u)
+  unit_step : (u : Item) → UnitPassed p.units u → (b : Bool) → opens u.id ≡ b → StepBy l p rs front (unit u)
   unfolding ids
-  unit-step u w true o =
+  unit_step u w true o =
       let j = w.joins in
       let top = spine_joined l p.written p.units rs front u.id j spine in
-      rw (grown_written, units-open l p j.unit j.outer u o j.joins, unit_bytes l u)
+      rw (grown_written, units_open l p j.unit j.outer u o j.joins, unit_bytes l u)
       (add_open l p.written j.unit j.outer rs front top u.id j.admitted (unit u) u.action u.text refl o
       (opens_some u.id o) w.acts w.says)
-  unit-step u w false o =
+  unit_step u w false o =
       let j = w.joins in
       let top = spine_joined l p.written p.units rs front u.id j spine in
-      rw (grown_written, units-leaf l p j.unit j.outer u o j.joins, unit_bytes l u)
+      rw (grown_written, units_leaf l p j.unit j.outer u o j.joins, unit_bytes l u)
       (add_tree l p.written j.unit j.outer rs front top u.id j.admitted (unit u) (tree u.id u.action u.text none none)
       refl (record { acts = w.acts; says = w.says; holds = (leaf_agrees u.id o []).1 refl }, record {}, record {})
       (inl ([], [], refl, refl, refl)))
 
-  group-step : (g : List ℕ) → GroupPassed l p.units g → StepBy l p rs front (group g)
+  group_step : (g : List ℕ) → GroupPassed l p.units g → StepBy l p rs front (group g)
   unfolding ids
-  group-step g w =
+  group_step g w =
       let j = w.joins in
       let id = id_at l g in
       let top = spine_joined l p.written p.units rs front id j spine in
       let whole = tree id w.action w.text w.inner none in
-      rw (grown_written, units-group l p j.unit j.outer g j.joins, bytes_group l g)
+      rw (grown_written, units_group l p j.unit j.outer g j.joins, bytes_group l g)
       (rw w.stream.bytes at (add_tree l p.written j.unit j.outer rs front top id j.admitted (group g) whole
       refl w.stream.tree.conforms (inr (g, [], refl, w.kind, w.stream, refl))))
 
@@ -97,5 +97,5 @@ module _ (l : Layout) (p : BuilderPlace) (rs : List Request) (front : List ℕ) 
 pub take_step : (e : Edition) (p : BuilderPlace) (rs : List Request) (front : List ℕ) → Spine (layout_of e) p.written p.units rs front →
     (r : Request) → Lent r → refused (layout_of e) p.units r 0 ≡ 0 → StepBy (layout_of e) p rs front r
 take_step e p rs front spine (unit u) lent may =
-    unit-step (layout_of e) p rs front spine u (unit_passed (layout_of e) p.units u may) (opens u.id) refl
-take_step e p rs front spine (group g) lent may = group-step (layout_of e) p rs front spine g (group_passed e p.units g lent may)
+    unit_step (layout_of e) p rs front spine u (unit_passed (layout_of e) p.units u may) (opens u.id) refl
+take_step e p rs front spine (group g) lent may = group_step (layout_of e) p rs front spine g (group_passed e p.units g lent may)

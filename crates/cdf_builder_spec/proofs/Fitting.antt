@@ -10,7 +10,7 @@ use Rattle.cdf_unit_table.specs.States.{unit_of, root_kind, admits_kind}
 use Rattle.cdf_unit_table.proofs.Bools.{both}
 use Rattle.cdf_unit_prefix.specs.Layout.{Layout, prefix_of}
 use Rattle.cdf_reader_spec.specs.Place.{nested, every, all}
-use Rattle.cdf_reader_spec.proofs.Opened.{few-by}
+use Rattle.cdf_reader_spec.proofs.Opened.{few_by}
 use Rattle.cdf_builder_spec.specs.declared.Begun.{Begun}
 use Rattle.cdf_builder_spec.specs.Place.{BuilderPlace, buildable, past_prefix, clauses, fits}
 
@@ -36,7 +36,7 @@ pub record Fitting (l : Layout) (n : ℕ) (p : BuilderPlace) : Type 0 where
 
 -- The kinds alone leave room for four.
 pub at_most_four : (os : List Begun) → Kinds os → length os ≤ 4
-at_most_four = few-by (λ o. o.state)
+at_most_four = few_by (λ o. o.state)
 
 module _ (l : Layout) (n : ℕ) (p : BuilderPlace) where
   pub fitting : fits l n p ≡ true → Fitting l n p
@@ -61,9 +61,9 @@ module _ (l : Layout) (n : ℕ) (p : BuilderPlace) where
         past = c7.0;
       }
 
-  pub fits-true : Fitting l n p → fits l n p ≡ true
+  pub fits_true : Fitting l n p → fits l n p ≡ true
   unfolding fits all clauses
-  fits-true f =
+  fits_true f =
       rw (
         le-leb p.written n f.within,
         le-leb p.written l.limit f.limit,

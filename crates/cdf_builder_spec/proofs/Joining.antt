@@ -125,13 +125,13 @@ module _ (l : Layout) (os : List Begun) where
       let j = joined_is os (id_at l g) next a.1 in
       (j.0, j.1, rw j.1 at e)
 
-  pub refused-then : (r : Request) (next : ℕ) → refused l os r 0 ≡ 0 → refused l os r next ≡ next
-  refused-then (unit u) next e =
+  pub refused_then : (r : Request) (next : ℕ) → refused l os r 0 ≡ 0 → refused l os r next ≡ next
+  refused_then (unit u) next e =
       let a = past (not (known u.id)) 6 _ (λ z. omega arith) (sym (unit_tests l os u 0) ∙ e) in
       let b = past (not (action_allowed u.id u.action)) 8 _ (λ z. omega arith) (joined_is os u.id _ a.1).1 in
       let c = past (not (right_data u.id u.text)) 9 0 (λ z. omega arith) b.1 in
       unit_tests l os u next ∙ rw (a.0, b.0, c.0) (joined_then os u.id _ next a.1)
-  refused-then (group g) next e =
+  refused_then (group g) next e =
       let a = past (not (accepted_group l g)) 14 _ (λ z. omega arith) (sym (group_tests l os g 0) ∙ e) in
       group_tests l os g next ∙ rw a.0 (joined_then os (id_at l g) 0 next a.1)
 

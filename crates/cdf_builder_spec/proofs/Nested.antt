@@ -31,22 +31,22 @@ module _ (l : Layout) where
   Written w (o ∷ os) = o.start + prefix_of l ≤ w
 
   -- The clauses of a place as these facts, and back.
-  from-clauses : (us : List Begun) → Kinds us → Buildable us → Starts l us → Nested us
+  from_clauses : (us : List Begun) → Kinds us → Buildable us → Starts l us → Nested us
   unfolding nested every
-  from-clauses [] k b s = false≢true k
-  from-clauses (o ∷ []) k b s = ((both (buildable o.state) true b).0, k, eqb-true o.start 0 s)
-  from-clauses (o ∷ p ∷ us) k b s =
+  from_clauses [] k b s = false≢true k
+  from_clauses (o ∷ []) k b s = ((both (buildable o.state) true b).0, k, eqb-true o.start 0 s)
+  from_clauses (o ∷ p ∷ us) k b s =
       let x = both (buildable o.state) (every (λ o. buildable o.state) (p ∷ us)) b in
       let y = both (admits_kind (unit_of p.state) (unit_of o.state)) _ k in
       let z = both (leb (p.start + prefix_of l) o.start) _ s in
-      (x.0, y.0, leb-true (p.start + prefix_of l) o.start z.0, from-clauses (p ∷ us) y.1 x.1 z.1)
+      (x.0, y.0, leb-true (p.start + prefix_of l) o.start z.0, from_clauses (p ∷ us) y.1 x.1 z.1)
 
-  to-clauses : (us : List Begun) → Nested us → Kinds us × Buildable us × Starts l us
+  to_clauses : (us : List Begun) → Nested us → Kinds us × Buildable us × Starts l us
   unfolding nested every
-  to-clauses [] h = absurd h
-  to-clauses (o ∷ []) h = (h.1, rw h.0, eq-eqb o.start 0 h.2)
-  to-clauses (o ∷ p ∷ us) h =
-      let rest = to-clauses (p ∷ us) h.3 in
+  to_clauses [] h = absurd h
+  to_clauses (o ∷ []) h = (h.1, rw h.0, eq-eqb o.start 0 h.2)
+  to_clauses (o ∷ p ∷ us) h =
+      let rest = to_clauses (p ∷ us) h.3 in
       (rw h.1 rest.0, rw h.0 rest.1, rw (le-leb (p.start + prefix_of l) o.start h.2) rest.2)
 
   from_past : (w : ℕ) (us : List Begun) → past_prefix l w us ≡ true → Written w us
@@ -54,22 +54,22 @@ module _ (l : Layout) where
   from_past w [] e = false≢true e
   from_past w (o ∷ us) e = leb-true (o.start + prefix_of l) w e
 
-  to-past : (w : ℕ) (us : List Begun) → Written w us → past_prefix l w us ≡ true
+  to_past : (w : ℕ) (us : List Begun) → Written w us → past_prefix l w us ≡ true
   unfolding past_prefix
-  to-past w [] h = absurd h
-  to-past w (o ∷ us) h = le-leb (o.start + prefix_of l) w h
+  to_past w [] h = absurd h
+  to_past w (o ∷ us) h = le-leb (o.start + prefix_of l) w h
 
   some : (us : List Begun) → Nested us → 1 ≤ length us
   some [] h = absurd h
   some (o ∷ us) h = omega arith
 
   module _ (n : ℕ) (p : BuilderPlace) where
-    pub fitting-nested : Fitting l n p → Nested p.units × Written p.written p.units
-    fitting-nested f = (from-clauses p.units f.kinds f.states f.starts, from_past p.written p.units f.past)
+    pub fitting_nested : Fitting l n p → Nested p.units × Written p.written p.units
+    fitting_nested f = (from_clauses p.units f.kinds f.states f.starts, from_past p.written p.units f.past)
 
-    pub nested-fitting : p.written ≤ n → p.written ≤ l.limit → Nested p.units → Written p.written p.units → Fitting l n p
-    nested-fitting room within h w =
-        let c = to-clauses p.units h in
+    pub nested_fitting : p.written ≤ n → p.written ≤ l.limit → Nested p.units → Written p.written p.units → Fitting l n p
+    nested_fitting room within h w =
+        let c = to_clauses p.units h in
         record {
           within = room;
           limit = within;
@@ -78,7 +78,7 @@ module _ (l : Layout) where
           kinds = c.0;
           states = c.1;
           starts = c.2;
-          past = to-past p.written p.units w;
+          past = to_past p.written p.units w;
         }
 
   -- Those around a unit lie in one another too,
@@ -88,11 +88,11 @@ module _ (l : Layout) where
   outside (x ∷ y ∷ inner) o outer h = outside (y ∷ inner) o outer h.3
 
   -- and their prefixes are written.
-  pub outside-written : (w : ℕ) (inner : List Begun) (o : Begun) (outer : List Begun) → Nested (inner ++ (o ∷ outer)) →
+  pub outside_written : (w : ℕ) (inner : List Begun) (o : Begun) (outer : List Begun) → Nested (inner ++ (o ∷ outer)) →
       Written w (inner ++ (o ∷ outer)) → Written w (o ∷ outer)
-  outside-written w [] o outer h e = e
-  outside-written w (x ∷ []) o outer h e = omega (arith, h.2)
-  outside-written w (x ∷ y ∷ inner) o outer h e = outside-written w (y ∷ inner) o outer h.3 (omega (arith, h.2))
+  outside_written w [] o outer h e = e
+  outside_written w (x ∷ []) o outer h e = omega (arith, h.2)
+  outside_written w (x ∷ y ∷ inner) o outer h e = outside_written w (y ∷ inner) o outer h.3 (omega (arith, h.2))
 
   -- They stay so as the innermost takes in a unit, and stays the same one.
   pub took : (o : Begun) (os : List Begun) (state : ℕ) → unit_of state ≡ unit_of o.state → buildable state ≡ true → Nested (o ∷ os) →

@@ -11,16 +11,16 @@ use Rattle.cdf_builder_spec.specs.Requests.{Request, unit, group, completed}
 use Rattle.cdf_builder_spec.specs.Calls.{Finish, start_of, decide_of, call_of, finish_of}
 use Rattle.cdf_builder_spec.specs.Orders.{first_broken, size_with, start_rules, next_rules, add_rules, finish_rules}
 use Rattle.cdf_builder_spec.proofs.Joining.{joined_tests, unit_tests, group_tests}
-use Rattle.cdf_builder_spec.proofs.Replying.{room_tests, start_tests, call_tests, call_is, start-number, call-number}
+use Rattle.cdf_builder_spec.proofs.Replying.{room_tests, start_tests, call_tests, call_is, start_number_lem, call_number_lem}
 
 pub start_order : (l : Layout) (s : List ℕ) (id : ℕ) → (start_of l s id).number ≡ first_broken (start_rules l (length s) id)
 unfolding first_broken start_rules
-start_order l s id = start-number l s id ∙ start_tests l (length s) id
+start_order l s id = start_number_lem l s id ∙ start_tests l (length s) id
 
 pub next_order : (l : Layout) (s : List ℕ) (p : BuilderPlace) (u : Item) → (call_of l s p (unit u)).number ≡ first_broken (next_rules l (length s) p u)
 unfolding first_broken next_rules
 next_order l s p u =
-    call-number l s p (unit u) ∙ call_tests l (length s) p (unit u)
+    call_number_lem l s p (unit u) ∙ call_tests l (length s) p (unit u)
     ∙ rw (
       unit_tests l p.units u _,
       joined_tests p.units u.id _,
@@ -30,7 +30,7 @@ next_order l s p u =
 pub add_order : (l : Layout) (s : List ℕ) (p : BuilderPlace) (g : List ℕ) → (call_of l s p (group g)).number ≡ first_broken (add_rules l (length s) p g)
 unfolding first_broken add_rules
 add_order l s p g =
-    call-number l s p (group g) ∙ call_tests l (length s) p (group g)
+    call_number_lem l s p (group g) ∙ call_tests l (length s) p (group g)
     ∙ rw (
       group_tests l p.units g _,
       joined_tests p.units (id_at l g) _,

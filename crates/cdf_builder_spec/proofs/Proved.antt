@@ -6,7 +6,7 @@ use Rattle.cdf_builder_spec.specs.Place.{past_prefix, clauses}
 use Rattle.cdf_builder_spec.specs.NearMisses.{misses_found, misses_due}
 use Rattle.cdf_builder_spec.specs.Claims.{Claims}
 use Rattle.cdf_builder_spec.proofs.Fitting.{at_most_four, fitting}
-use Rattle.cdf_builder_spec.proofs.Replying.{start-kept, call_kept}
+use Rattle.cdf_builder_spec.proofs.Replying.{start_kept, call_kept}
 use Rattle.cdf_builder_spec.proofs.Keeping.{start_fits, call_fits}
 use Rattle.cdf_builder_spec.proofs.Orders.{start_order, next_order, add_order, finish_order, decided}
 
@@ -19,7 +19,7 @@ proved = record {
   decides = decides;
   start_fits = start_fits;
   call_fits = call_fits;
-  refused_start = start-kept;
+  refused_start = start_kept;
   refused_stays = call_kept;
   four = λ l n p e. at_most_four p.units (fitting l n p e).kinds;
   start_order = start_order;

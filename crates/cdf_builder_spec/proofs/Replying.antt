@@ -15,13 +15,13 @@ use Rattle.cdf_unit_table.proofs.Match.{each, among}
 use Rattle.cdf_unit_prefix.specs.Layout.{Layout, prefix_of}
 use Rattle.cdf_grammar.specs.Encoding.{unit_bytes, Item}
 use Rattle.cdf_builder_write.specs.Patch.{patch}
-use Rattle.cdf_builder_write.proofs.Lent.{length-alone}
+use Rattle.cdf_builder_write.proofs.Lent.{length_alone}
 use Rattle.cdf_builder_spec.specs.declared.Begun.{Begun}
 use Rattle.cdf_builder_spec.specs.Place.{BuilderPlace, fits}
 use Rattle.cdf_builder_spec.specs.Requests.{Request, unit, group, id_of, bytes_for, joining, advanced, entering, refused, grown}
 use Rattle.cdf_builder_spec.specs.Calls.{Reply, no_builder_place, room, start_number, start_of, call_number, decide_of, write_of, call_of}
 use Rattle.cdf_builder_spec.specs.Orders.{size_with}
-use Rattle.cdf_builder_spec.proofs.Joining.{Joins, refused_is, refused-then}
+use Rattle.cdf_builder_spec.proofs.Joining.{Joins, refused_is, refused_then}
 use Rattle.cdf_builder_spec.proofs.Lengths.{length_write}
 
 -- The place in which a start leaves the builder.
@@ -99,7 +99,7 @@ unfolding bytes_for
 bytes_unit l u = refl
 
 pub unit_size : (l : Layout) (u : Item) → length (bytes_for l (unit u)) ≡ prefix_of l + length u.text
-unit_size l u = rw (bytes_unit l u) (length-alone l u.id u.action u.text)
+unit_size l u = rw (bytes_unit l u) (length_alone l u.id u.action u.text)
 
 -- A root's kind is known.
 root_known : (id : ℕ) → root_kind id ≡ true → known id ≡ true
@@ -124,26 +124,26 @@ module _ (l : Layout) (s : List ℕ) (id : ℕ) where
   abbrev number : ℕ
   number = start_number l (length s) id
 
-  pub start-number : (start_of l s id).number ≡ number
-  start-number =
+  pub start_number_lem : (start_of l s id).number ≡ number
+  start_number_lem =
       rw (start_is l s id)
       (of_cond (λ (a : Reply). a.number ≡ number) (eqb number 0) _ _ (λ e. sym (eqb-true number 0 e)) (λ e. refl))
 
-  pub start-done : number ≡ 0 → start_of l s id ≡ record { number = 0; place = root_place l id; buffer = patch 0 (unit_bytes l id 0 [] []) s }
-  start-done e = rw (start_is l s id, eq-eqb number 0 e)
+  pub start_done : number ≡ 0 → start_of l s id ≡ record { number = 0; place = root_place l id; buffer = patch 0 (unit_bytes l id 0 [] []) s }
+  start_done e = rw (start_is l s id, eq-eqb number 0 e)
 
-  pub start-kept : ((start_of l s id).number ≡ 0 → ⊥) → ((start_of l s id).place ≡ no_builder_place) × ((start_of l s id).buffer ≡ s)
-  start-kept some =
-      let no = ne_eqb number 0 (λ e. some (start-number ∙ e)) in
+  pub start_kept : ((start_of l s id).number ≡ 0 → ⊥) → ((start_of l s id).place ≡ no_builder_place) × ((start_of l s id).buffer ≡ s)
+  start_kept some =
+      let no = ne_eqb number 0 (λ e. some (start_number_lem ∙ e)) in
       (rw (start_is l s id, no), rw (start_is l s id, no))
 
 -- A call's number is 0 exactly if the place fits, the request is right and there is room for it.
 module _ (l : Layout) (n : ℕ) (p : BuilderPlace) (r : Request) where
-  pub call-fit : call_number l n p r ≡ 0 → fits l n p ≡ true
-  call-fit e = not-false (fits l n p) (past (not (fits l n p)) 2 _ (λ z. omega arith) (sym (call_tests l n p r) ∙ e)).0
+  pub call_fit : call_number l n p r ≡ 0 → fits l n p ≡ true
+  call_fit e = not-false (fits l n p) (past (not (fits l n p)) 2 _ (λ z. omega arith) (sym (call_tests l n p r) ∙ e)).0
 
-  room-zero : (room l n (size_with l p r) ≡ 0) ↔ ((size_with l p r ≤ l.limit) × (size_with l p r ≤ n))
-  room-zero = (
+  room_zero : (room l n (size_with l p r) ≡ 0) ↔ ((size_with l p r ≤ l.limit) × (size_with l p r ≤ n))
+  room_zero = (
     λ e.
         let a = past (ltb l.limit (size_with l p r)) 13 _ (λ z. omega arith) (sym (room_tests l n (size_with l p r)) ∙ e) in
         let b = past (ltb n (size_with l p r)) 12 0 (λ z. omega arith) a.1 in
@@ -151,31 +151,31 @@ module _ (l : Layout) (n : ℕ) (p : BuilderPlace) (r : Request) where
     λ w. rw (room_tests l n (size_with l p r), le-ltb l.limit (size_with l p r) w.0, le-ltb n (size_with l p r) w.1),
   )
 
-  pub call-fitting : fits l n p ≡ true → call_number l n p r ≡ refused l p.units r (room l n (size_with l p r))
-  call-fitting fit = rw (call_tests l n p r, fit)
+  pub call_fitting : fits l n p ≡ true → call_number l n p r ≡ refused l p.units r (room l n (size_with l p r))
+  call_fitting fit = rw (call_tests l n p r, fit)
 
-  pub call-zero : fits l n p ≡ true →
+  pub call_zero : fits l n p ≡ true →
       (call_number l n p r ≡ 0) ↔ ((refused l p.units r 0 ≡ 0) × (size_with l p r ≤ l.limit) × (size_with l p r ≤ n))
-  call-zero fit = (
+  call_zero fit = (
     λ e.
-        let w = refused_is l p.units r (room l n (size_with l p r)) (sym (call-fitting fit) ∙ e) in
-        let v = room-zero.0 w.1 in
+        let w = refused_is l p.units r (room l n (size_with l p r)) (sym (call_fitting fit) ∙ e) in
+        let v = room_zero.0 w.1 in
         (w.2, v.0, v.1),
-    λ w. call-fitting fit ∙ refused-then l p.units r (room l n (size_with l p r)) w.0 ∙ room-zero.1 (w.1, w.2),
+    λ w. call_fitting fit ∙ refused_then l p.units r (room l n (size_with l p r)) w.0 ∙ room_zero.1 (w.1, w.2),
   )
 
 -- A call that is done, and one that is refused.
 module _ (l : Layout) (s : List ℕ) (p : BuilderPlace) (r : Request) where
-  pub call-number : (call_of l s p r).number ≡ call_number l (length s) p r
-  call-number = rw (call_is l s p r, decide_is l (length s) p r)
+  pub call_number_lem : (call_of l s p r).number ≡ call_number l (length s) p r
+  call_number_lem = rw (call_is l s p r, decide_is l (length s) p r)
 
-  pub call-done : (call_of l s p r).number ≡ 0 →
+  pub call_done : (call_of l s p r).number ≡ 0 →
       call_of l s p r ≡ record { number = 0; place = grown l p r; buffer = write_of l p.written (grown l p r) (bytes_for l r) s }
-  call-done e = rw (call_is l s p r, decide_is l (length s) p r, sym call-number ∙ e)
+  call_done e = rw (call_is l s p r, decide_is l (length s) p r, sym call_number_lem ∙ e)
 
   pub call_kept : ((call_of l s p r).number ≡ 0 → ⊥) → ((call_of l s p r).place ≡ p) × ((call_of l s p r).buffer ≡ s)
   call_kept some =
-      let no = ne_eqb (call_number l (length s) p r) 0 (λ e. some (call-number ∙ e)) in
+      let no = ne_eqb (call_number l (length s) p r) 0 (λ e. some (call_number_lem ∙ e)) in
       (rw (call_is l s p r, decide_is l (length s) p r, no), rw (call_is l s p r, decide_is l (length s) p r, no))
 
   -- The buffer's length stays.

@@ -12,7 +12,7 @@ use borrow.Rule.Slice.PartMut.{put_mid}
 use Rattle.cdf_unit_prefix.specs.Layout.{Layout, prefix_of}
 use Rattle.cdf_grammar.specs.Encoding.{bytes_of, prefix_bytes, unit_bytes}
 use Rattle.cdf_grammar.proofs.Numbers.{length_bytes_lem}
-use Rattle.cdf_grammar.proofs.Prefixes.{length-prefix}
+use Rattle.cdf_grammar.proofs.Prefixes.{length_prefix}
 use Rattle.cdf_grammar.proofs.Built.{unit_is, length_unit}
 use Rattle.cdf_builder_copy.proofs.Lent.{lent}
 use Rattle.cdf_builder_write.specs.Patch.{patch}
@@ -34,18 +34,18 @@ module _ (at n : ℕ) (new s : List ℕ) (size : length new ≡ n) (may : Bool) 
 
 -- A prefix is stored around its length.
 module _ (l : Layout) (len action id : ℕ) where
-  prefix-is : prefix_bytes l len action id ≡ 0xcd ∷ l.mark ∷ (bytes_of l.length_bytes len ++ (action ∷ id ∷ []))
+  prefix_is : prefix_bytes l len action id ≡ 0xcd ∷ l.mark ∷ (bytes_of l.length_bytes len ++ (action ∷ id ∷ []))
   unfolding prefix_bytes
-  prefix-is = refl
+  prefix_is = refl
 
-  pub prefix-stored : (s : List ℕ) → prefix_of l ≤ length s →
+  pub prefix_stored : (s : List ℕ) → prefix_of l ≤ length s →
       let s' = set (set s 0 0xcd) 1 l.mark in
       let k = l.length_bytes in
       set (set (take 2 s' ++ (bytes_of k len ++ drop (2 + k) s')) (k + 2) action) (k + 3) id
       ≡ prefix_bytes l len action id ++ drop (prefix_of l) s
-  prefix-stored [] h = absurd (omega arith)
-  prefix-stored (a ∷ []) h = absurd (omega arith)
-  prefix-stored (a ∷ b ∷ s) h =
+  prefix_stored [] h = absurd (omega arith)
+  prefix_stored (a ∷ []) h = absurd (omega arith)
+  prefix_stored (a ∷ b ∷ s) h =
       let k = l.length_bytes in
       let front : List ℕ = 0xcd ∷ l.mark ∷ bytes_of k len in
       let more = drop (suc (suc k)) s in
@@ -58,21 +58,21 @@ module _ (l : Layout) (len action id : ℕ) where
       let second = set_at (front ++ (action ∷ [])) z more id (k + 3) longer in
       let two : 2 + k ≡ suc (suc k) = omega arith in
       let four : prefix_of l ≡ suc (suc (suc (suc k))) = omega arith in
-      rw (two, four, cut, first, ← append_snoc front action (z ∷ more), second, prefix-is) (simp append_assoc)
+      rw (two, four, cut, first, ← append_snoc front action (z ∷ more), second, prefix_is) (simp append_assoc)
 
 -- A unit with nothing nested in it is its prefix with its data behind.
 module _ (l : Layout) (id action : ℕ) (text : List ℕ) where
-  pub length-alone : length (unit_bytes l id action text []) ≡ prefix_of l + length text
-  length-alone = omega (arith, length_unit l id action text [])
+  pub length_alone : length (unit_bytes l id action text []) ≡ prefix_of l + length text
+  length_alone = omega (arith, length_unit l id action text [])
 
-  pub unit-stored : (s s' : List ℕ) → s' ≡ prefix_bytes l (prefix_of l + length text) action id ++ drop (prefix_of l) s →
+  pub unit_stored : (s s' : List ℕ) → s' ≡ prefix_bytes l (prefix_of l + length text) action id ++ drop (prefix_of l) s →
       take (prefix_of l) s' ++ (text ++ drop (prefix_of l + length text) s')
       ≡ unit_bytes l id action text [] ++ drop (prefix_of l + length text) s
-  unit-stored s s' e =
+  unit_stored s s' e =
       let p = prefix_of l in
       let n = length text in
       let front = prefix_bytes l (p + n) action id in
-      let size = length-prefix l (p + n) action id in
+      let size = length_prefix l (p + n) action id in
       let none : n + 0 ≡ n = omega arith in
       rw (
         e,

@@ -63,14 +63,14 @@ module _ (l : Layout) (s : List ℕ) (x : Listing) (finished : x.end ≡ unfinis
   Tells (Accepted n) os pos = Comes (step l s os pos) n
   Tells (Refused k at) os pos = Refused k at ≡ checked_of x
 
-  after-tells : (more : ℕ → Checked) (r : Checked) (os ps : List Open) (pos end : ℕ) → Tells r os pos →
+  after_tells : (more : ℕ → Checked) (r : Checked) (os ps : List Open) (pos end : ℕ) → Tells r os pos →
       ((n : ℕ) → Comes (step l s os pos) n → Tells (more n) ps end) → Tells (and_then more r) ps end
   unfolding and_then
-  after-tells more (Accepted n) os ps pos end h g = g n h
-  after-tells more (Refused k at) os ps pos end h g = h
+  after_tells more (Accepted n) os ps pos end h g = g n h
+  after_tells more (Refused k at) os ps pos end h g = h
 
   -- The unit at a position, then what follows it.
-  turn-tells : (nested : Nested) (more : ℕ → ℕ → ℕ → Checked) (pos n : ℕ) (t : List ℕ) (around : ℕ → List Open)
+  turn_tells : (nested : Nested) (more : ℕ → ℕ → ℕ → Checked) (pos n : ℕ) (t : List ℕ) (around : ℕ → List Open)
       (ps : List Open) (end : ℕ) (j : Judged) → Comes (entered pos around j) n →
       ((id action own len state : ℕ) → j ≡ Found id action own len state →
       (opens id ≡ true → Comes (step l s (frame (nothing id) pos (pos + len) ∷ around state) (pos + own)) (n + 1) →
@@ -78,10 +78,10 @@ module _ (l : Layout) (s : List ℕ) (x : Listing) (finished : x.end ≡ unfinis
       × ((m : ℕ) → Comes (step l s (around state) (pos + len)) m → Tells (more state len m) ps end)) →
       Tells (turn nested more pos n t j) ps end
   unfolding turn entered
-  turn-tells nested more pos n t around ps end (Fault k at) c laws = stop c
-  turn-tells nested more pos n t around ps end (Found id action own len state) c laws =
+  turn_tells nested more pos n t around ps end (Fault k at) c laws = stop c
+  turn_tells nested more pos n t around ps end (Found id action own len state) c laws =
       let law = laws id action own len state refl in
-      after-tells (more state len) (cond (opens id) (nested (take len t) (nothing id) pos own (n + 1)) (Accepted (n + 1)))
+      after_tells (more state len) (cond (opens id) (nested (take len t) (nothing id) pos own (n + 1)) (Accepted (n + 1)))
       (around state) ps (pos + len) end (go (opens id) refl law.0 (on c)) law.1
     where
       go : (b : Bool) → opens id ≡ b →
@@ -108,10 +108,10 @@ module _ (l : Layout) (s : List ℕ) (x : Listing) (finished : x.end ≡ unfinis
   step_in_lem base len state at os t p h =
       rw (ne_eqb (base + len) (base + at) (λ e. omega arith), left_of s base len t p at)
 
-  finish-tells : (base end state n : ℕ) (os : List Open) → Comes (step l s (frame state base end ∷ os) end) n →
+  finish_tells : (base end state n : ℕ) (os : List Open) → Comes (step l s (frame state base end ∷ os) end) n →
       Tells (finish base state n) os end
   unfolding step_by
-  finish-tells base end state n os c = go (complete state) (rw step_end at c)
+  finish_tells base end state n os c = go (complete state) (rw step_end at c)
     where
       go : (b : Bool) → Comes (step_in l s end (cond b (close os end) (incomplete base))) n →
           Tells (cond b (Accepted n) (Refused 10 base)) os end
@@ -132,14 +132,14 @@ module _ (l : Layout) (s : List ℕ) (x : Listing) (finished : x.end ≡ unfinis
         Comes (step l s (frame state base (base + len) ∷ os) (base + at)) n →
         Tells (walk l (inside_of l levels) fuel t base state at n) os (base + len)
 
-    at-end : (state at n : ℕ) → at ≤ len → len ≤ at → Comes (step l s (frame state base (base + len) ∷ os) (base + at)) n →
+    at_end_lem : (state at n : ℕ) → at ≤ len → len ≤ at → Comes (step l s (frame state base (base + len) ∷ os) (base + at)) n →
         Tells (finish base state n) os (base + len)
-    at-end state at n a e c = let same : at ≡ len = omega arith in finish-tells base (base + len) state n os (rw same at c)
+    at_end_lem state at n a e c = let same : at ≡ len = omega arith in finish_tells base (base + len) state n os (rw same at c)
 
-    walk-tells : (fuel : ℕ) → Walks fuel
+    walk_tells : (fuel : ℕ) → Walks fuel
     unfolding walk
-    walk-tells zero state at n r a e c = at-end state at n a (omega arith) c
-    walk-tells (suc fuel) state at n r a e c = go (ltb at (length t)) refl (walk-tells fuel)
+    walk_tells zero state at n r a e c = at_end_lem state at n a (omega arith) c
+    walk_tells (suc fuel) state at n r a e c = go (ltb at (length t)) refl (walk_tells fuel)
       where
         go : (b : Bool) → ltb at (length t) ≡ b → Walks fuel →
             Tells
@@ -149,7 +149,7 @@ module _ (l : Layout) (s : List ℕ) (x : Listing) (finished : x.end ≡ unfinis
             (finish base state n))
             os (base + len)
         go true h walks =
-            turn-tells (inside_of l levels) (λ next k m. walk l (inside_of l levels) fuel t base next (at + k) m) (base + at) n (drop at t)
+            turn_tells (inside_of l levels) (λ next k m. walk l (inside_of l levels) fuel t base next (at + k) m) (base + at) n (drop at t)
             (λ next. frame next base (base + len) ∷ os) os (base + len) (judge_of l false state (drop at t))
             (rw (step_in_lem base len state at os t p (omega (arith, ltb-true at (length t) h, p.long))) at c)
             (λ child action own k next q.
@@ -162,13 +162,13 @@ module _ (l : Layout) (s : List ℕ) (x : Listing) (finished : x.end ≡ unfinis
                   let sum : base + at + k ≡ base + (at + k) = omega arith in
                   walks next (at + k) m (omega arith) (omega arith) (omega arith) (rw sum at c),
             ))
-        go false h walks = at-end state at n a (omega (arith, ltb-false at (length t) h, p.long)) c
+        go false h walks = at_end_lem state at n a (omega (arith, ltb-false at (length t) h, p.long)) c
 
-  inside-tells : (levels : ℕ) → Insides levels
+  inside_tells : (levels : ℕ) → Insides levels
   unfolding inside_of
-  inside-tells zero state base len body n t os p h r c = absurd (omega arith)
-  inside-tells (suc levels) state base len body n t os p h r c =
-      walk-tells levels (inside-tells levels) base len t os p (length t) state body n (omega arith) h
+  inside_tells zero state base len body n t os p h r c = absurd (omega arith)
+  inside_tells (suc levels) state base len body n t os p h r c =
+      walk_tells levels (inside_tells levels) base len t os p (length t) state body n (omega arith) h
       (omega (arith, p.long)) c
 
   whole : (r : Checked) (pos : ℕ) → Tells r [] pos → r ≡ checked_of x
@@ -185,11 +185,11 @@ same l root state s =
     let x = list_by l s j in
     let f = finishes l s root state in
     whole l s x f (front l s j) 0
-    (turn-tells l s x f (inside_of l 5) (λ next len n. Accepted n) 0 0 s (λ state. []) [] 0 j
+    (turn_tells l s x f (inside_of l 5) (λ next len n. Accepted n) 0 0 s (λ state. []) [] 0 j
     (record { fuel = length s; us = []; count = refl; same = sym (follows l s root state) })
     (λ id action own len next q.
     let z = placed l root state s q in (
-      λ o. inside-tells l s x f 5 (nothing id) 0 len own 1 (take len s) []
+      λ o. inside_tells l s x f 5 (nothing id) 0 len own 1 (take len s) []
           (part_of s 0 (length s) s (record { long = refl; is = sym (take-length s) }) 0 len z.high) z.inside
           (omega (arith, (opens_lower id o).same, height_most id)),
       λ m c. c,

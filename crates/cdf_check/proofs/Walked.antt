@@ -112,17 +112,17 @@ module _ {l : Layout} {levels : ℕ} {s : List ℕ} {state base body count at no
 
     -- `next` is the enclosing unit's state once it has had this one.
     module _ {id action len : ℕ} (e : x ≡ Prefix id action len) (next : ℕ) (may : next ≡ admit now id) where
-      admits-it : next ≡ admits false now id
-      admits-it = may ∙ sym (admits_nested now id)
+      admits_it : next ≡ admits false now id
+      admits_it = may ∙ sym (admits_nested now id)
 
-      pub not-here : next ≡ 0 → Inside (Refused 7 (base + at))
-      not-here none = here (stages.refused l false (drop at s) x is _ (admits false now) e next admits-it none ∙ stages.in_is _ l false now (drop at s))
+      pub not_here : next ≡ 0 → Inside (Refused 7 (base + at))
+      not_here none = here (stages.refused l false (drop at s) x is _ (admits false now) e next admits_it none ∙ stages.in_is _ l false now (drop at s))
 
       module _ (some : next ≡ 0 → ⊥) where
         pub lies : Lies l levels s at id len next
         lies =
             let z = bounds l false (drop at s) x is e in
-            let w = falls now id next (sym admits-it) some in
+            let w = falls now id next (sym admits_it) some in
             let d = length-drop at s in
             let r = g.low in
             record { room = z.0; high = omega arith; deeper = omega arith; after = omega arith }
@@ -136,13 +136,13 @@ module _ {l : Layout} {levels : ℕ} {s : List ℕ} {state base body count at no
         unfolding checked_unit
         answers =
             turns
-            (stages.admitted l false (drop at s) x is _ (admits false now) e next admits-it some (prefix_of l) refl ∙ stages.in_is _ l false now (drop at s))
+            (stages.admitted l false (drop at s) x is _ (admits false now) e next admits_it some (prefix_of l) refl ∙ stages.in_is _ l false now (drop at s))
             ∙ rw (minus_plus len at, drop-take (prefix_of l) len (drop at s))
             (by_body l (inside_of l (levels - 1)) _ (base + at) n (drop at s) id action len next _)
 
-        pub stopped-inside : {r : Checked} → r ≡ nested → {k o : ℕ} → r ≡ Refused k o → Inside (Refused k o)
+        pub stopped_inside : {r : Checked} → r ≡ nested → {k o : ℕ} → r ≡ Refused k o → Inside (Refused k o)
         unfolding and_then
-        stopped-inside q f = refusal (base + length s) (answers ∙ rw (← q, f))
+        stopped_inside q f = refusal (base + length s) (answers ∙ rw (← q, f))
 
         pub on : {r : Checked} → r ≡ nested → {m : ℕ} → r ≡ Accepted m → m ≤ base + (at + len) →
             Going l levels s state base body count (at + len) next m
@@ -168,13 +168,13 @@ module _ (l : Layout) (levels : ℕ) (s : List ℕ) (id action base n p : ℕ) (
   unfolding checked_unit
   by e = rw (← prefixed, ← is, e)
 
-  pub no-action : c ≡ Action → Alone (Refused 8 base)
+  pub no_action : c ≡ Action → Alone (Refused 8 base)
   unfolding unit_by
-  no-action e = refusal (base + length s) (by e)
+  no_action e = refusal (base + length s) (by e)
 
-  pub no-data : {k : ℕ} → c ≡ Data k → Alone (Refused 9 (base + p + k))
+  pub no_data : {k : ℕ} → c ≡ Data k → Alone (Refused 9 (base + p + k))
   unfolding unit_by
-  no-data e = rw prefixed (refusal (base + length s) (by e))
+  no_data e = rw prefixed (refusal (base + length s) (by e))
 
   -- `first` is the unit's first state, if it admits others.
   module _ {k : ℕ} (e : c ≡ Whole k) (first : ℕ) (begins : first ≡ nothing id) where
@@ -188,14 +188,14 @@ module _ (l : Layout) (levels : ℕ) (s : List ℕ) (id action base n p : ℕ) (
 
 -- The unit at the front, as `check_front` takes it.
 module _ (l : Layout) (s : List ℕ) where
-  pub front-stopped : {j : Judged} {k o : ℕ} → j ≡ Fault k o → Refused k o ≡ front l s j
+  pub front_stopped : {j : Judged} {k o : ℕ} → j ≡ Fault k o → Refused k o ≡ front l s j
   unfolding front turn
-  front-stopped {k = k} {o = o} e = let none : 0 + o ≡ o = omega arith in rw (e, none)
+  front_stopped {k = k} {o = o} e = let none : 0 + o ≡ o = omega arith in rw (e, none)
 
-  pub front-found : {j : Judged} {id action own len next : ℕ} {r : Checked} → j ≡ Found id action own len next →
+  pub front_found : {j : Judged} {id action own len next : ℕ} {r : Checked} → j ≡ Found id action own len next →
       r ≡ cond (opens id) (inside_of l 5 (take len s) (nothing id) 0 own 1) (Accepted 1) → r ≡ front l s j
   unfolding front turn and_then
-  front-found e q = q ∙ rw e (sym (last _))
+  front_found e q = q ∙ rw e (sym (last _))
     where
       last : (r : Checked) → and_then (λ n. Accepted n) r ≡ r
       last (Accepted n) = refl

@@ -13,7 +13,7 @@ use Rattle.cdf_unit_table.specs.States.{admit, rows, root_kind, admits}
 use Rattle.cdf_unit_table.specs.Tables.{those}
 use Rattle.cdf_unit_table.proofs.Bools.{both, clash}
 use Rattle.cdf_unit_table.proofs.Rows.{from_rows}
-use Rattle.cdf_unit_table.proofs.Tables.{same-below}
+use Rattle.cdf_unit_table.proofs.Tables.{same_below}
 use Rattle.cdf_unit_prefix.specs.Layout.{Layout, prefix_of}
 use Rattle.cdf_unit_prefix.specs.Rules.{head_of}
 use Rattle.cdf_unit_prefix.specs.declared.Header.TheVariants.{Prefix}
@@ -28,9 +28,9 @@ use Rattle.cdf_unit_list.specs.Check.{check_of}
 use Rattle.cdf_unit_list.specs.declared.Unit.{Unit}
 use Rattle.cdf_explain_spec.specs.Why.{open_around, admitted_by, why_after, why_of}
 use Rattle.cdf_explain_spec.specs.Claims.{Last, Rising}
-use Rattle.cdf_explain_spec.proofs.Members.{member-those}
-use Rattle.cdf_explain_spec.proofs.Last.{Stopped, stopped, why-is}
-use Rattle.cdf_explain_spec.proofs.Told.{accepted, refused-ids}
+use Rattle.cdf_explain_spec.proofs.Members.{member_those}
+use Rattle.cdf_explain_spec.proofs.Last.{Stopped, stopped, why_is}
+use Rattle.cdf_explain_spec.proofs.Told.{accepted, refused_ids}
 
 -- The numbers that pass a test rise.
 further : (a b n : ℕ) (xs : List ℕ) → b ≤ n → Rising a b xs → Rising a (suc n) (xs ++ (n ∷ []))
@@ -74,35 +74,35 @@ ids_rise l s = of_end (listing l s).end
 
 -- What passes 3 to 6 gets 7 exactly if it is not admitted.
 module _ (l : Layout) (root : Bool) (t : List ℕ) (id action len : ℕ) (q : head_of l root t ≡ Prefix id action len) where
-  seven-if : (b : Bool) (j : Judged) → (j ≡ Fault 7 0 → ⊥) → (cond b (Fault 7 0) j ≡ Fault 7 0) ↔ (not b ≡ false)
-  seven-if true j other = ((λ e. refl), (λ e. refl))
-  seven-if false j other = ((λ e. absurd (other e)), (λ e. clash cc))
+  seven_if : (b : Bool) (j : Judged) → (j ≡ Fault 7 0 → ⊥) → (cond b (Fault 7 0) j ≡ Fault 7 0) ↔ (not b ≡ false)
+  seven_if true j other = ((λ e. refl), (λ e. refl))
+  seven_if false j other = ((λ e. absurd (other e)), (λ e. clash cc))
 
-  body-other : (next : ℕ) (c : Body) → found_by l id action len next c ≡ Fault 7 0 → ⊥
+  body_other : (next : ℕ) (c : Body) → found_by l id action len next c ≡ Fault 7 0 → ⊥
   unfolding found_by
-  body-other next Action e = let z : ◌≡◌ {A = ℕ} 8 7 = cc in omega arith
-  body-other next (Data k) e = let z : ◌≡◌ {A = ℕ} 9 7 = cc in omega arith
-  body-other next (Whole k) e = clash cc
+  body_other next Action e = let z : ◌≡◌ {A = ℕ} 8 7 = cc in omega arith
+  body_other next (Data k) e = let z : ◌≡◌ {A = ℕ} 9 7 = cc in omega arith
+  body_other next (Whole k) e = clash cc
 
   seven : (state : ℕ) → (judge_of l root state t ≡ Fault 7 0) ↔ (not (eqb (admits root state id) 0) ≡ false)
   unfolding judge_in judge_by judge_head
   seven state =
       let next = admits root state id in
-      rw q (seven-if (eqb next 0) _ (body-other next (body_of id action (take (len - prefix_of l) (drop (prefix_of l) t)))))
+      rw q (seven_if (eqb next 0) _ (body_other next (body_of id action (take (len - prefix_of l) (drop (prefix_of l) t)))))
 
   below : id < ids_end
   unfolding known
   below = ltb-true id ids_end (both (leb 1 id) (ltb id ids_end) (headed l root t id action len q).recognised).1
 
   -- So where the ids told are those that pass this test.
-  pub told-seven : (state : ℕ) (f : ℕ → Bool) → f id ≡ not (eqb (admits root state id) 0) →
+  pub told_seven : (state : ℕ) (f : ℕ → Bool) → f id ≡ not (eqb (admits root state id) 0) →
       (judge_of l root state t ≡ Fault 7 0) ↔ (member id (those f ids_end) ≡ false)
-  told-seven state f e = rw (member-those f ids_end id below, e) (seven state)
+  told_seven state f e = rw (member_those f ids_end id below, e) (seven state)
 
 -- A root's ids, by one computation.
 pub root_admits : (id : ℕ) → id < ids_end → root_kind id ≡ not (eqb (admits true 0 id) 0)
 unfolding root_kind admits
-root_admits = same-below root_kind (λ id. not (eqb (admits true 0 id) 0)) ids_end refl
+root_admits = same_below root_kind (λ id. not (eqb (admits true 0 id) 0)) ids_end refl
 
 -- A list that ends so begins so, turned round.
 turned_last : (us outer : List Unit) (o : Unit) → reverse us ≡ outer ++ (o ∷ []) → us ≡ o ∷ reverse outer
@@ -113,23 +113,23 @@ never_last us [] o n e = clash cc
 never_last us (x ∷ outer) o n e = clash cc
 
 module _ (l : Layout) (s : List ℕ) where
-  pub nested-ids : (o : Unit) → Last o (why_of l s).units → (t : List ℕ) (id action len : ℕ) → head_of l false t ≡ Prefix id action len →
+  pub nested_ids : (o : Unit) → Last o (why_of l s).units → (t : List ℕ) (id action len : ℕ) → head_of l false t ≡ Prefix id action len →
       (judge_of l false (state_of (reverse (listing l s).units) o) t ≡ Fault 7 0) ↔ (member id (why_of l s).ids ≡ false)
   unfolding admitted_by admits
-  nested-ids o (outer, last) t id action len q = go (eqb (check_of l s).number 0) refl
+  nested_ids o (outer, last) t id action len q = go (eqb (check_of l s).number 0) refl
     where
-      by-stop : (w : Stopped l s) → reverse (open_around w.before) ≡ outer ++ (o ∷ []) →
+      by_stop : (w : Stopped l s) → reverse (open_around w.before) ≡ outer ++ (o ∷ []) →
           (judge_of l false (state_of (reverse (listing l s).units) o) t ≡ Fault 7 0) ↔ (member id (why_of l s).ids ≡ false)
-      by-stop w last =
-          rw (why-is l s w, w.units, reverse-reverse w.before, turned_last (open_around w.before) outer o last)
-          (told-seven l false t id action len q (state_of w.before o) (λ id. not (eqb (admit (state_of w.before o) id) 0)) refl)
+      by_stop w last =
+          rw (why_is l s w, w.units, reverse-reverse w.before, turned_last (open_around w.before) outer o last)
+          (told_seven l false t id action len q (state_of w.before o) (λ id. not (eqb (admit (state_of w.before o) id) 0)) refl)
 
       go : (b : Bool) → eqb (check_of l s).number 0 ≡ b →
           (judge_of l false (state_of (reverse (listing l s).units) o) t ≡ Fault 7 0) ↔ (member id (why_of l s).ids ≡ false)
       go true e = absurd (never_last (why_of l s).units outer o (rw (accepted l s (eqb-true (check_of l s).number 0 e))) last)
-      go false e = let w = stopped l s (eqb-false (check_of l s).number 0 e) in by-stop w (rw (why-is l s w) at last)
+      go false e = let w = stopped l s (eqb-false (check_of l s).number 0 e) in by_stop w (rw (why_is l s w) at last)
 
-  pub root-ids : (listing l s).units ≡ [] → (t : List ℕ) (id action len : ℕ) → head_of l true t ≡ Prefix id action len →
+  pub root_ids : (listing l s).units ≡ [] → (t : List ℕ) (id action len : ℕ) → head_of l true t ≡ Prefix id action len →
       (judge_of l true 0 t ≡ Fault 7 0) ↔ (member id (why_of l s).ids ≡ false)
-  root-ids none t id action len q =
-      rw (refused-ids l s none) (told-seven l true t id action len q 0 root_kind (root_admits id (below l true t id action len q)))
+  root_ids none t id action len q =
+      rw (refused_ids l s none) (told_seven l true t id action len q 0 root_kind (root_admits id (below l true t id action len q)))

@@ -21,15 +21,15 @@ use Rattle.cdf_unit_judge.proofs.Placed.{headed, placed, judged}
 
 -- Bytes that agree up to m.
 module _ (m : ℕ) (s t : List ℕ) (a : Agree m s t) where
-  pub agree-front : (k : ℕ) → k ≤ m → take k t ≡ take k s
-  agree-front k h = sym (take-take k m t h) ∙ ap (take k) a.1 ∙ take-take k m s h
+  pub agree_front : (k : ℕ) → k ≤ m → take k t ≡ take k s
+  agree_front k h = sym (take-take k m t h) ∙ ap (take k) a.1 ∙ take-take k m s h
 
-  agree-byte : (i : ℕ) → i < m → get_or t i 0 ≡ get_or s i 0
-  agree-byte i h = sym (get_or-take m t i 0 h) ∙ ap (λ (x : List ℕ). get_or x i 0) a.1 ∙ get_or-take m s i 0 h
+  agree_byte : (i : ℕ) → i < m → get_or t i 0 ≡ get_or s i 0
+  agree_byte i h = sym (get_or-take m t i 0 h) ∙ ap (λ (x : List ℕ). get_or x i 0) a.1 ∙ get_or-take m s i 0 h
 
   -- So do their parts.
-  pub agree-part : (p k n : ℕ) → p + k ≤ m → k ≤ n → Agree k (take n (drop p s)) (take n (drop p t))
-  agree-part p k n h few = (long, front t ∙ ap (drop p) (agree-front (p + k) h) ∙ sym (front s))
+  pub agree_part : (p k n : ℕ) → p + k ≤ m → k ≤ n → Agree k (take n (drop p s)) (take n (drop p t))
+  agree_part p k n h few = (long, front t ∙ ap (drop p) (agree_front (p + k) h) ∙ sym (front s))
     where
       long : length (take n (drop p t)) ≡ length (take n (drop p s))
       long = simp (length-take, length-drop) (rw a.0)
@@ -40,37 +40,37 @@ module _ (m : ℕ) (s t : List ℕ) (a : Agree m s t) where
   number_same : (k at : ℕ) → at + k ≤ m → number_at k at t ≡ number_at k at s
   unfolding number_at
   number_same zero at h = refl
-  number_same (suc k) at h = rw (number_same k at (omega arith), agree-byte (at + k) (omega arith))
+  number_same (suc k) at h = rw (number_same k at (omega arith), agree_byte (at + k) (omega arith))
 
   module _ (l : Layout) where
-    mark-same : 2 ≤ m → marked l t ≡ marked l s
+    mark_same : 2 ≤ m → marked l t ≡ marked l s
     unfolding marked
-    mark-same h = rw (agree-byte 0 (omega arith), agree-byte 1 (omega arith))
+    mark_same h = rw (agree_byte 0 (omega arith), agree_byte 1 (omega arith))
 
-    length-same : 2 + l.length_bytes ≤ m → length_at l t ≡ length_at l s
+    length_same : 2 + l.length_bytes ≤ m → length_at l t ≡ length_at l s
     unfolding length_at
-    length-same h = number_same l.length_bytes 2 h
+    length_same h = number_same l.length_bytes 2 h
 
-    action-same : prefix_of l - 2 < m → action_at l t ≡ action_at l s
+    action_same : prefix_of l - 2 < m → action_at l t ≡ action_at l s
     unfolding action_at
-    action-same h = agree-byte (prefix_of l - 2) h
+    action_same h = agree_byte (prefix_of l - 2) h
 
     id_same : prefix_of l ≤ m → id_at l t ≡ id_at l s
     unfolding id_at
-    id_same h = agree-byte (prefix_of l - 1) (omega arith)
+    id_same h = agree_byte (prefix_of l - 1) (omega arith)
 
 -- With another id in the place of its own, a prefix that passes 3 to 6 still does.
 module _ (l : Layout) (root : Bool) (t : List ℕ) (id : ℕ) where
   abbrev pub exchanged : List ℕ
   exchanged = set t (prefix_of l - 1) id
 
-  before-id : Agree (prefix_of l - 1) t exchanged
-  before-id = (length-set t (prefix_of l - 1) id, take-set-le (prefix_of l - 1) t (prefix_of l - 1) id (omega arith))
+  before_id : Agree (prefix_of l - 1) t exchanged
+  before_id = (length-set t (prefix_of l - 1) id, take-set-le (prefix_of l - 1) t (prefix_of l - 1) id (omega arith))
 
-  pub head-exchanged : (was action len : ℕ) → head_of l root t ≡ Prefix was action len → known id ≡ true →
+  pub head_exchanged : (was action len : ℕ) → head_of l root t ≡ Prefix was action len → known id ≡ true →
       head_of l root exchanged ≡ Prefix id action len
   unfolding head_of id_at
-  head-exchanged was action len q may =
+  head_exchanged was action len q may =
       let e1 = past (ltb (length t) (prefix_of l)) (Stop 3) _ (stop 3) q in
       let e2 = past (not (marked l t)) (Stop 4) _ (stop 4) e1.1 in
       let e3 = past (ltb (length_at l t) (prefix_of l)) (Stop 5) _ (stop 5) e2.1 in
@@ -79,9 +79,9 @@ module _ (l : Layout) (root : Bool) (t : List ℕ) (id : ℕ) where
       let place : prefix_of l - 1 < length t = omega (arith, h.low, h.fit.high) in
       rw (
         length-set t (prefix_of l - 1) id,
-        mark-same (prefix_of l - 1) t exchanged before-id l (omega arith),
-        length-same (prefix_of l - 1) t exchanged before-id l (omega arith),
-        action-same (prefix_of l - 1) t exchanged before-id l (omega arith),
+        mark_same (prefix_of l - 1) t exchanged before_id l (omega arith),
+        length_same (prefix_of l - 1) t exchanged before_id l (omega arith),
+        action_same (prefix_of l - 1) t exchanged before_id l (omega arith),
         get_or-set_same t (prefix_of l - 1) id 0 place,
         e1.0,
         e2.0,
@@ -104,12 +104,12 @@ judge_same l root state s t {id} {action} {own} {len} {next} a e =
     let inside = p.inside in
     let k = own - prefix_of l in
     let whole : prefix_of l + k ≤ own = omega arith in
-    let part = agree-part own s t a (prefix_of l) k (len - prefix_of l) whole (omega arith) in
+    let part = agree_part own s t a (prefix_of l) k (len - prefix_of l) whole (omega arith) in
     judged l root state t (record {
-      mark = mark-same own s t a l (omega arith) ∙ p.mark;
+      mark = mark_same own s t a l (omega arith) ∙ p.mark;
       is_id = p.is_id ∙ sym (id_same own s t a l room);
-      is_action = p.is_action ∙ sym (action-same own s t a l (omega arith));
-      is_length = p.is_length ∙ sym (length-same own s t a l (omega arith));
+      is_action = p.is_action ∙ sym (action_same own s t a l (omega arith));
+      is_length = p.is_length ∙ sym (length_same own s t a l (omega arith));
       recognised = p.recognised;
       may = p.may;
       some = p.some;

@@ -57,16 +57,16 @@ module _ (pos : ℕ) where
           rw reach (rest (rw reach at h))
 
   -- So what closing leaves of the stack are the units that the list leaves open.
-  stay-later : (us ws : List Unit) → Each (λ w. pos < w.end) ws → unclosed (map (open_of us) ws) pos ≡ map (open_of us) ws
+  stay_later : (us ws : List Unit) → Each (λ w. pos < w.end) ws → unclosed (map (open_of us) ws) pos ≡ map (open_of us) ws
   unfolding unclosed
-  stay-later us [] h = refl
-  stay-later us (w ∷ ws) h = rw (ne_eqb w.end pos (λ e. omega (arith, h.0)))
+  stay_later us [] h = refl
+  stay_later us (w ∷ ws) h = rw (ne_eqb w.end pos (λ e. omega (arith, h.0)))
 
-  close-kept : (us cs ws : List Unit) → Each (λ w. w.end ≡ pos) cs → Each (λ w. pos < w.end) ws →
+  close_kept : (us cs ws : List Unit) → Each (λ w. w.end ≡ pos) cs → Each (λ w. pos < w.end) ws →
       unclosed (map (open_of us) (cs ++ ws)) pos ≡ map (open_of us) (kept_open us cs ++ ws)
   unfolding unclosed kept_open
-  close-kept us [] ws e h = stay-later us ws h
-  close-kept us (c ∷ cs) ws e h = rw (eq-eqb c.end pos e.0) (go (complete (state_of us c)) (close-kept us cs ws e.1 h))
+  close_kept us [] ws e h = stay_later us ws h
+  close_kept us (c ∷ cs) ws e h = rw (eq-eqb c.end pos e.0) (go (complete (state_of us c)) (close_kept us cs ws e.1 h))
     where
       go : (b : Bool) → unclosed (map (open_of us) (cs ++ ws)) pos ≡ map (open_of us) (kept_open us cs ++ ws) →
           cond b (unclosed (map (open_of us) (cs ++ ws)) pos) (open_of us c ∷ map (open_of us) (cs ++ ws))
@@ -79,7 +79,7 @@ pub around_is : (u : Unit) (us : List Unit) → Nested (after u) (after u) (reac
 unfolding open_around closing_at open_at
 around_is u us h =
     rw (parts (after u) (u ∷ us) h)
-    (close-kept (after u) (u ∷ us) (closing_at (after u) (u ∷ us)) (open_at (after u) (u ∷ us))
+    (close_kept (after u) (u ∷ us) (closing_at (after u) (u ∷ us)) (open_at (after u) (u ∷ us))
     (each_parent (λ v. eqb v.end (after u)) (λ w. w.end ≡ after u) (λ v o e. eqb-true v.end (after u) e) (u ∷ us))
     (each_parent (λ v. ltb (after u) v.end) (λ w. after u < w.end) (λ v o e. ltb-true (after u) v.end e) (u ∷ us)))
 

@@ -19,12 +19,12 @@ use Rattle.cdf_unit_list.specs.Check.{answer_of, answer, check_of}
 use Rattle.cdf_unit_list.specs.Stack.{Step, refused}
 use Rattle.cdf_unit_list.specs.declared.Unit.{Unit}
 use Rattle.cdf_unit_list.proofs.Nested.{reaching, Nested}
-use Rattle.cdf_unit_list.proofs.Agreement.{Agrees, both_end, both_refuse, both_list, first-agrees, next-agrees}
+use Rattle.cdf_unit_list.proofs.Agreement.{Agrees, both_end, both_refuse, both_list, first_agrees, next_agrees}
 use Rattle.cdf_reader_spec.specs.Place.{ReaderPlace}
 use Rattle.cdf_explain_spec.specs.Why.{kept_open, open_around, admitted_by, why_after, why_of}
 use Rattle.cdf_explain_spec.specs.Claims.{Refused}
-use Rattle.cdf_reader_runs.proofs.Looping.{Stands, Stops, at-end, at-fault}
-use Rattle.cdf_explain_spec.proofs.Stands.{final, why-after}
+use Rattle.cdf_reader_runs.proofs.Looping.{Stands, Stops, at_end_lem, at_fault}
+use Rattle.cdf_explain_spec.proofs.Stands.{final, why_after_lem}
 
 pub agrees_broken : {us : List Unit} {m : Next} {x : Step} → Agrees us m x → (n at : ℕ) → x ≡ refused n at → m ≡ broken n at
 agrees_broken both_end n at e = clash cc
@@ -73,10 +73,10 @@ module _ (l : Layout) (s : List ℕ) where
     pub ends : Ends before number offset
 
   ends_there : (before : List Unit) (p : ReaderPlace) (n at : ℕ) → Stands l s before p (refused n at) → Ends before n at
-  ends_there [] p n at h = agrees_broken (first-agrees l s true 0) n at (sym h.1)
+  ends_there [] p n at h = agrees_broken (first_agrees l s true 0) n at (sym h.1)
   ends_there (u ∷ us) p n at h =
       let f = h.0.follow in
-      rw (← h.0.position) (agrees_broken (next-agrees l s (u ∷ us) p.units p.position f) n at (sym h.1), f.nested)
+      rw (← h.0.position) (agrees_broken (next_agrees l s (u ∷ us) p.units p.position f) n at (sym h.1), f.nested)
 
   pub stopped : Refused l s → Stopped
   unfolding check_of answer answer_of
@@ -84,23 +84,23 @@ module _ (l : Layout) (s : List ℕ) where
     where
       go : (before : List Unit) (p : ReaderPlace) → (listing l s).units ≡ reverse before → {x : Step} {e : End} → Stops l s x e → (listing l s).end ≡ e →
           Stands l s before p x → Stopped
-      go before p all at-end q h = absurd (some (rw q refl))
-      go before p all (at-fault {n} {at}) q h =
+      go before p all at_end_lem q h = absurd (some (rw q refl))
+      go before p all (at_fault {n} {at}) q h =
           record { before = before; number = n; offset = at; units = all; end = q; ends = ends_there before p n at h }
 
   module _ (w : Stopped) where
-    pub why-is : why_of l s ≡ record {
+    pub why_is : why_of l s ≡ record {
       number = w.number;
       offset = w.offset;
       units = reverse (open_around w.before);
       ids = admitted_by w.before (open_around w.before);
     }
     unfolding why_after
-    why-is = why-after l s w.before w.units ∙ ap (why_after w.before) w.end
+    why_is = why_after_lem l s w.before w.units ∙ ap (why_after w.before) w.end
 
-    pub check-is : check_of l s ≡ record { number = w.number; value = w.offset }
+    pub check_is : check_of l s ≡ record { number = w.number; value = w.offset }
     unfolding check_of answer answer_of
-    check-is = rw w.end
+    check_is = rw w.end
 
   -- Either the units that end there close, and what the innermost open one has left is judged; or one of them is incomplete.
   pub record Judges (u : Unit) (us : List Unit) (n at : ℕ) : Type 0 where
@@ -117,16 +117,16 @@ module _ (l : Layout) (s : List ℕ) where
     pub ten : n ≡ 10
     pub offset : at ≡ closing.unit.start
 
-  fault-low : (root : Bool) (pos state : ℕ) (t : List ℕ) (n at : ℕ) → unit_at pos (judge_of l root state t) ≡ broken n at → n ≤ 9
+  fault_low : (root : Bool) (pos state : ℕ) (t : List ℕ) (n at : ℕ) → unit_at pos (judge_of l root state t) ≡ broken n at → n ≤ 9
   unfolding unit_at
-  fault-low root pos state t n at e = go (judge_of l root state t) refl e
+  fault_low root pos state t n at e = go (judge_of l root state t) refl e
     where
       go : (j : Judged) → judge_of l root state t ≡ j → unit_at pos j ≡ broken n at → n ≤ 9
       go (Fault m k) q e = let same : m ≡ n = cc in omega (arith, (fault-told l root t state q).high)
       go (Found id action own len next) q e = clash cc
 
-  pub start-low : (n at : ℕ) → Ends [] n at → n ≤ 9
-  start-low = fault-low true 0 0 s
+  pub start_low : (n at : ℕ) → Ends [] n at → n ≤ 9
+  start_low = fault_low true 0 0 s
 
   pub by_end : (u : Unit) (us : List Unit) (n at : ℕ) → next_at l s (u ∷ us) (after u) ≡ broken n at → Judges u us n at ⊎ Lacking u us n at
   unfolding next_at or_else within open_around
@@ -141,7 +141,7 @@ module _ (l : Layout) (s : List ℕ) where
         stay = q;
         around = rw (k, q);
         tells = e;
-        low = fault-low false (after u) (state_of (u ∷ us) o) (take (o.end - after u) (drop (after u) s)) n at e;
+        low = fault_low false (after u) (state_of (u ∷ us) o) (take (o.end - after u) (drop (after u) s)) n at e;
       }
 
       go : ((closed (u ∷ us) (closing_at (after u) (u ∷ us)) ≡ whole) × (kept_open (u ∷ us) (closing_at (after u) (u ∷ us)) ≡ []))

@@ -85,9 +85,9 @@ either_member id (x ∷ xs) ys = go (eqb id x) (either_member id xs ys)
     go false e = e
 
 module _ (f : ℕ → Bool) where
-  last-other : (n id : ℕ) → (id ≡ n → ⊥) → member id (cond (f n) (n ∷ []) []) ≡ false
+  last_other : (n id : ℕ) → (id ≡ n → ⊥) → member id (cond (f n) (n ∷ []) []) ≡ false
   unfolding member
-  last-other n id d = go (f n)
+  last_other n id d = go (f n)
     where
       go : (b : Bool) → member id (cond b (n ∷ []) []) ≡ false
       go true = rw (ne_eqb id n d)
@@ -97,12 +97,12 @@ module _ (f : ℕ → Bool) where
   unfolding those member
   beyond zero id h = refl
   beyond (suc n) id h =
-      either_member id (those f n) (cond (f n) (n ∷ []) []) ∙ rw (beyond n id (omega arith)) (last-other n id (λ e. omega arith))
+      either_member id (those f n) (cond (f n) (n ∷ []) []) ∙ rw (beyond n id (omega arith)) (last_other n id (λ e. omega arith))
 
-  pub member-those : (n id : ℕ) → id < n → member id (those f n) ≡ f id
+  pub member_those : (n id : ℕ) → id < n → member id (those f n) ≡ f id
   unfolding those member
-  member-those zero id h = absurd (omega arith)
-  member-those (suc n) id h = either_member id (those f n) (cond (f n) (n ∷ []) []) ∙ go (eqb id n) refl (member-those n id)
+  member_those zero id h = absurd (omega arith)
+  member_those (suc n) id h = either_member id (those f n) (cond (f n) (n ∷ []) []) ∙ go (eqb id n) refl (member_those n id)
     where
       or-false : (b : Bool) → (b || false) ≡ b
       or-false true = refl
@@ -117,4 +117,4 @@ module _ (f : ℕ → Bool) where
       go true e more = let same = eqb-true id n e in rw (same, beyond n n (omega arith)) (last (f n))
       go false e more =
           let d = eqb-false id n e in
-          rw (more (omega arith), last-other n id d) (or-false (f id))
+          rw (more (omega arith), last_other n id d) (or-false (f id))

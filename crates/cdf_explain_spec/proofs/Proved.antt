@@ -2,9 +2,9 @@
 use mathlib.Core.Path.{◌≡◌, refl}
 use Rattle.cdf_explain_spec.specs.Samples.{samples_found, samples_due}
 use Rattle.cdf_explain_spec.specs.Claims.{Claims}
-use Rattle.cdf_explain_spec.proofs.Told.{accepted, refused-same, listed-open, inside, four, refused_start, ten}
-use Rattle.cdf_explain_spec.proofs.Surrounding.{told-open, last-incomplete}
-use Rattle.cdf_explain_spec.proofs.Admitted.{ids_rise, nested-ids, root-ids}
+use Rattle.cdf_explain_spec.proofs.Told.{accepted, refused_same, listed_open, inside, four, refused_start, ten}
+use Rattle.cdf_explain_spec.proofs.Surrounding.{told_open, last_incomplete}
+use Rattle.cdf_explain_spec.proofs.Admitted.{ids_rise, nested_ids, root_ids}
 use Rattle.cdf_explain_spec.proofs.Exchanging.{stands_there, exchanged_id}
 
 samples : samples_found ≡ samples_due
@@ -15,16 +15,16 @@ pub proved : Claims
 proved = record {
   samples = samples;
   accepted = accepted;
-  refused = refused-same;
-  listed = listed-open;
+  refused = refused_same;
+  listed = listed_open;
   inside = inside;
   four = four;
   stands = stands_there;
-  told = told-open;
-  incomplete = last-incomplete;
+  told = told_open;
+  incomplete = last_incomplete;
   rising = ids_rise;
-  nested = nested-ids;
-  rooted = root-ids;
+  nested = nested_ids;
+  rooted = root_ids;
   exchanged = exchanged_id;
   start = refused_start;
   ten = ten;

@@ -8,8 +8,8 @@ use Rattle.cdf_unit_list.specs.Stack.{Step, done, refused}
 use Rattle.cdf_unit_list.specs.declared.Unit.{Unit}
 use Rattle.cdf_reader_spec.specs.Place.{ReaderPlace}
 use Rattle.cdf_reader_spec.specs.Calls.{empty_place, place_at}
-use Rattle.cdf_reader_runs.proofs.Keeps.{Keeps, first-keeps, next-keeps}
-use Rattle.cdf_reader_runs.proofs.Looping.{Stands, stands-next, Stops, at-end, at-fault}
+use Rattle.cdf_reader_runs.proofs.Keeps.{Keeps, first_keeps, next_keeps}
+use Rattle.cdf_reader_runs.proofs.Looping.{Stands, stands_next, Stops, at_end_lem, at_fault}
 use Rattle.cdf_reader_runs.proofs.Steps.{Run, ends, breaks, hands, listed}
 use Rattle.cdf_explain_spec.specs.Why.{why_after, why_of}
 
@@ -23,20 +23,20 @@ module _ (l : Layout) (s : List ℕ) where
     pub stands : Stands l s before place taken
     pub stops : Stops l s taken (listing l s).end
 
-  final-from : {x : Step} {us : List Unit} {e : End} → Run l s x us e → e ≡ (listing l s).end → (before : List Unit) →
+  final_from : {x : Step} {us : List Unit} {e : End} → Run l s x us e → e ≡ (listing l s).end → (before : List Unit) →
       (listing l s).units ≡ reverse_aux before us → (p : ReaderPlace) → Keeps l s p x → Stands l s before p x → Final
-  final-from ends q before all p k h =
-      record { before = before; place = p; taken = done; units = all; stands = h; stops = rw (← q) at-end }
-  final-from (breaks {n} {at}) q before all p k h =
-      record { before = before; place = p; taken = refused n at; units = all; stands = h; stops = rw (← q) at-fault }
-  final-from (hands {u = u} {os = os} {pos = pos} run) q before all p k h =
+  final_from ends q before all p k h =
+      record { before = before; place = p; taken = done; units = all; stands = h; stops = rw (← q) at_end_lem }
+  final_from (breaks {n} {at}) q before all p k h =
+      record { before = before; place = p; taken = refused n at; units = all; stands = h; stops = rw (← q) at_fault }
+  final_from (hands {u = u} {os = os} {pos = pos} run) q before all p k h =
       let next = place_at p u os pos in
-      final-from run q (u ∷ before) all next (next-keeps l s next k) (stands-next l s before p u os pos h k)
+      final_from run q (u ∷ before) all next (next_keeps l s next k) (stands_next l s before p u os pos h k)
 
   pub final : Final
-  final = final-from (listed l s) refl [] refl empty_place (first-keeps l s) (refl, refl)
+  final = final_from (listed l s) refl [] refl empty_place (first_keeps l s) (refl, refl)
 
   -- What the tool tells, by the last step.
-  pub why-after : (before : List Unit) → (listing l s).units ≡ reverse before → why_of l s ≡ why_after before (listing l s).end
+  pub why_after_lem : (before : List Unit) → (listing l s).units ≡ reverse before → why_of l s ≡ why_after before (listing l s).end
   unfolding why_of
-  why-after before e = rw (e, reverse-reverse)
+  why_after_lem before e = rw (e, reverse-reverse)

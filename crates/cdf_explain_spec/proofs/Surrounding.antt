@@ -18,7 +18,7 @@ use Rattle.cdf_explain_spec.specs.Claims.{OneOf, here, there, Refused, behind, p
 use Rattle.cdf_explain_spec.proofs.Kept.{each_parent, parts, around_rest}
 use Rattle.cdf_explain_spec.proofs.Inwards.{one_turned, each_listed, around_opens, outer_part}
 use Rattle.cdf_explain_spec.proofs.Members.{each_at, one_none, first_or, one_split, one_right, turned_one, one_passes, surrounds, inner_later}
-use Rattle.cdf_explain_spec.proofs.Last.{Ends, Stopped, stopped, start-low, why-is, check-is, Judges, Lacking, by_end}
+use Rattle.cdf_explain_spec.proofs.Last.{Ends, Stopped, stopped, start_low, why_is, check_is, Judges, Lacking, by_end}
 
 module _ (l : Layout) (s : List ℕ) (u : Unit) (us : List Unit) (n at : ℕ) (e : Ends l s (u ∷ us) n at) where
   abbrev pos : ℕ
@@ -47,14 +47,14 @@ module _ (l : Layout) (s : List ℕ) (u : Unit) (us : List Unit) (n at : ℕ) (e
     abbrev outer : List Unit
     outer = k.closing.outer ++ open_at pos all
 
-    reach-is : reaching pos all ≡ k.closing.inner ++ (lacks ∷ outer)
-    reach-is =
+    reach_is : reaching pos all ≡ k.closing.inner ++ (lacks ∷ outer)
+    reach_is =
         parts pos all e.1 ∙ ap (λ cs. cs ++ open_at pos all) k.closing.is
         ∙ append_assoc k.closing.inner (lacks ∷ k.closing.outer) (open_at pos all)
 
     starts_before : {w : Unit} → OneOf w (lacks ∷ outer) → w.start ≤ lacks.start
     starts_before o =
-        go (first_or o refl) (outer_part k.closing.inner (lacks ∷ outer) pos pos (rw reach-is at e.1))
+        go (first_or o refl) (outer_part k.closing.inner (lacks ∷ outer) pos pos (rw reach_is at e.1))
       where
         go : {w : Unit} → (w ≡ lacks) ⊎ OneOf w outer → Nested lacks.start lacks.end outer → w.start ≤ lacks.start
         go (inl q) h = rw q (omega arith)
@@ -80,11 +80,11 @@ module _ (l : Layout) (s : List ℕ) (u : Unit) (us : List Unit) (n at : ℕ) (e
   opened : {w : Unit} → OneOf w all → opens w.id ≡ true → Ending w → OneOf w (open_around all)
   opened one o x = go (by_end l s u us n at e.0) one o x
     where
-      in-outer : {w : Unit} (k : Lacking l s u us n at) → w.start ≤ at → OneOf w k.closing.inner ⊎ OneOf w (lacks k ∷ outer k) →
+      in_outer : {w : Unit} (k : Lacking l s u us n at) → w.start ≤ at → OneOf w k.closing.inner ⊎ OneOf w (lacks k ∷ outer k) →
           OneOf w (lacks k ∷ outer k)
-      in-outer k h (inl i) =
-          absurd (omega (arith, inner_later pos pos (lacks k) (outer k) (rw (reach-is k) at e.1) i, k.offset))
-      in-outer k h (inr o) = o
+      in_outer k h (inl i) =
+          absurd (omega (arith, inner_later pos pos (lacks k) (outer k) (rw (reach_is k) at e.1) i, k.offset))
+      in_outer k h (inr o) = o
 
       go : {w : Unit} → Judges l s u us n at ⊎ Lacking l s u us n at → OneOf w all → opens w.id ≡ true → Ending w → OneOf w (open_around all)
       go (inl j) one o (inl h) = rw (j.around, ← j.stay) (ended one o h)
@@ -92,11 +92,11 @@ module _ (l : Layout) (s : List ℕ) (u : Unit) (us : List Unit) (n at : ℕ) (e
       go (inr k) one o (inl h) = rw k.around (there (one_right k.closing.outer (ended one o h)))
       go {w} (inr k) one o (inr x) =
           let reach = one_passes (λ v. leb pos v.end) one o (le-leb pos w.end x.1.1) in
-          rw k.around (in-outer k x.1.0 (one_split k.closing.inner (lacks k ∷ outer k) (rw (reach-is k) at reach)))
+          rw k.around (in_outer k x.1.0 (one_split k.closing.inner (lacks k ∷ outer k) (rw (reach_is k) at reach)))
 
-  there-told : (w : Unit) →
+  there_told : (w : Unit) →
       OneOf w (reverse (open_around all)) ↔ (OneOf w (reverse all) × (opens w.id ≡ true) × (w.start < pos) × Ending w)
-  there-told w = (
+  there_told w = (
     (λ o. let one = turned_one (open_around all) o in (
       each_at (λ v. OneOf v (reverse all)) o (each_listed all),
       each_at (λ v. opens v.id ≡ true) one (around_opens all),
@@ -107,25 +107,25 @@ module _ (l : Layout) (s : List ℕ) (u : Unit) (us : List Unit) (n at : ℕ) (e
   )
 
 module _ (l : Layout) (s : List ℕ) where
-  told-by : (before : List Unit) (n at : ℕ) → Ends l s before n at → (w : Unit) →
+  told_by : (before : List Unit) (n at : ℕ) → Ends l s before n at → (w : Unit) →
       OneOf w (reverse (open_around before))
       ↔ (OneOf w (reverse before) × (opens w.id ≡ true) × (w.start < behind before) × ((behind before < w.end) ⊎ ((n ≡ 10) × Spans at (behind before) w)))
   unfolding open_around
-  told-by [] n at e w = ((λ o. absurd (one_none o)), (λ x. absurd (one_none x.0)))
-  told-by (u ∷ us) n at e w = there-told l s u us n at e w
+  told_by [] n at e w = ((λ o. absurd (one_none o)), (λ x. absurd (one_none x.0)))
+  told_by (u ∷ us) n at e w = there_told l s u us n at e w
 
-  pub told-open : Refused l s → (u : Unit) → OneOf u (why_of l s).units ↔ OpenAt l s (point_of l s) u
-  told-open r u =
+  pub told_open : Refused l s → (u : Unit) → OneOf u (why_of l s).units ↔ OpenAt l s (point_of l s) u
+  told_open r u =
       let w = stopped l s r in
-      rw (why-is l s w, check-is l s w, w.units, reverse-reverse) (told-by w.before w.number w.offset w.ends u)
+      rw (why_is l s w, check_is l s w, w.units, reverse-reverse) (told_by w.before w.number w.offset w.ends u)
 
   -- The last of the units told.
   abbrev Ten : List Unit → List Unit → ℕ → Type 0
   Ten before told at = (u : Unit) × Last u told × (u.start ≡ at) × (u.end ≡ behind before)
 
-  ten-by : (before : List Unit) (n at : ℕ) → Ends l s before n at → n ≡ 10 → Ten before (reverse (open_around before)) at
-  ten-by [] n at e ten = absurd (omega (arith, start-low l s n at e))
-  ten-by (u ∷ us) n at e ten = go (by_end l s u us n at e.0)
+  ten_by : (before : List Unit) (n at : ℕ) → Ends l s before n at → n ≡ 10 → Ten before (reverse (open_around before)) at
+  ten_by [] n at e ten = absurd (omega (arith, start_low l s n at e))
+  ten_by (u ∷ us) n at e ten = go (by_end l s u us n at e.0)
     where
       go : Judges l s u us n at ⊎ Lacking l s u us n at → Ten (u ∷ us) (reverse (open_around (u ∷ us))) at
       go (inl j) = absurd (omega (arith, j.low))
@@ -134,10 +134,10 @@ module _ (l : Layout) (s : List ℕ) where
           let more = k.closing.outer ++ open_at (after u) (u ∷ us) in
           (c, (reverse more, ap reverse k.around ∙ reverse-cons c more), sym k.offset, ends_there l s u us n at e k)
 
-  pub last-incomplete : (check_of l s).number ≡ 10 → Ten (reverse (listing l s).units) (why_of l s).units (check_of l s).value
-  last-incomplete z = by-stop (stopped l s (λ x. omega arith))
+  pub last_incomplete : (check_of l s).number ≡ 10 → Ten (reverse (listing l s).units) (why_of l s).units (check_of l s).value
+  last_incomplete z = by_stop (stopped l s (λ x. omega arith))
     where
-      by-stop : Stopped l s → Ten (reverse (listing l s).units) (why_of l s).units (check_of l s).value
-      by-stop w =
-          let ten : w.number ≡ 10 = rw (check-is l s w) at z in
-          rw (why-is l s w, check-is l s w, w.units, reverse-reverse) (ten-by w.before w.number w.offset w.ends ten)
+      by_stop : Stopped l s → Ten (reverse (listing l s).units) (why_of l s).units (check_of l s).value
+      by_stop w =
+          let ten : w.number ≡ 10 = rw (check_is l s w) at z in
+          rw (why_is l s w, check_is l s w, w.units, reverse-reverse) (ten_by w.before w.number w.offset w.ends ten)

@@ -31,8 +31,8 @@ use Rattle.cdf_reader_runs.proofs.Steps.{Run, ends, breaks, hands, listed}
 use Rattle.cdf_explain_spec.specs.Why.{nothing_wrong, open_around, admitted_by, why_after, why_of}
 use Rattle.cdf_explain_spec.specs.Claims.{Inwards, OneOf, Each}
 use Rattle.cdf_explain_spec.proofs.Kept.{around_is, around_rest}
-use Rattle.cdf_reader_runs.proofs.Looping.{Behind, Stands, Stops, at-end, at-fault}
-use Rattle.cdf_explain_spec.proofs.Stands.{final, why-after}
+use Rattle.cdf_reader_runs.proofs.Looping.{Behind, Stands, Stops, at_end_lem, at_fault}
+use Rattle.cdf_explain_spec.proofs.Stands.{final, why_after_lem}
 use Rattle.cdf_explain_spec.proofs.Ids.{unclosed_states, unclosed_few, Lacks, lacking, incomplete_admits}
 use Rattle.cdf_explain_spec.proofs.Inwards.{outer_part, turned, each_listed}
 
@@ -45,16 +45,16 @@ of_end P us (fault n at) none some = some
 
 module _ (l : Layout) (s : List ℕ) where
   -- The stack that closing leaves at the place behind a unit is the open units.
-  pub around-units : (u : Unit) (us : List Unit) (p : ReaderPlace) → Behind l s u us p →
+  pub around_units : (u : Unit) (us : List Unit) (p : ReaderPlace) → Behind l s u us p →
       unclosed p.units p.position ≡ map (open_of (u ∷ us)) (open_around (u ∷ us))
-  around-units u us p b = rw (b.follow.stack, b.position) (around_is u us (rw b.position at b.follow.nested))
+  around_units u us p b = rw (b.follow.stack, b.position) (around_is u us (rw b.position at b.follow.nested))
 
   -- So what holds of those at every place that the list can stand at holds of the units told.
   told : (P : List Unit → Type 0) → P [] →
       ((before : List Unit) (p : ReaderPlace) (x : Step) → Stands l s before p x → P (reverse (open_around before))) → P (why_of l s).units
   told P none some =
       let f = final l s in
-      rw (why-after l s f.before f.units) (of_end P f.before (listing l s).end none (some f.before f.place f.taken f.stands))
+      rw (why_after_lem l s f.before f.units) (of_end P f.before (listing l s).end none (some f.before f.place f.taken f.stands))
 
   -- The open units behind a unit are nested at its end, where the place stands.
   at_end : (u : Unit) (us : List Unit) (p : ReaderPlace) → Behind l s u us p → Nested (after u) (after u) (reaching (after u) (u ∷ us))
@@ -79,13 +79,13 @@ module _ (l : Layout) (s : List ℕ) where
       go [] p x h = omega arith
       go (u ∷ us) p x h =
           let few = at_most_four p.units (fitting l (length s) p h.0.fit).kinds in
-          let same = ap length (around-units u us p h.0) ∙ length-map (open_around (u ∷ us)) (open_of (u ∷ us)) in
+          let same = ap length (around_units u us p h.0) ∙ length-map (open_around (u ∷ us)) (open_of (u ∷ us)) in
           rw (length-reverse (open_around (u ∷ us))) (omega (arith, unclosed_few p.units p.position))
 
-  pub listed-open : Each (λ u. OneOf u (listing l s).units) (why_of l s).units
-  listed-open =
+  pub listed_open : Each (λ u. OneOf u (listing l s).units) (why_of l s).units
+  listed_open =
       let f = final l s in
-      rw (why-after l s f.before f.units, f.units)
+      rw (why_after_lem l s f.before f.units, f.units)
       (of_end (Each (λ u. OneOf u (reverse f.before))) f.before (listing l s).end (record {}) (each_listed f.before))
 
   -- The number and the offset are those of the check.
@@ -99,9 +99,9 @@ module _ (l : Layout) (s : List ℕ) where
       go ended q z = refl
       go (fault n at) q z = absurd (omega (arith, proved.numbered l s q))
 
-  pub refused-same : ((check_of l s).number ≡ 0 → ⊥) → ((why_of l s).number ≡ (check_of l s).number) × ((why_of l s).offset ≡ (check_of l s).value)
+  pub refused_same : ((check_of l s).number ≡ 0 → ⊥) → ((why_of l s).number ≡ (check_of l s).number) × ((why_of l s).offset ≡ (check_of l s).value)
   unfolding why_of why_after check_of answer answer_of
-  refused-same some = go (listing l s).end refl some
+  refused_same some = go (listing l s).end refl some
     where
       go : (e : End) → (listing l s).end ≡ e → ((answer_of (length (listing l s).units) e).number ≡ 0 → ⊥) →
           ((why_after (reverse (listing l s).units) e).number ≡ (answer_of (length (listing l s).units) e).number)
@@ -111,21 +111,21 @@ module _ (l : Layout) (s : List ℕ) where
       go (fault n at) q some = (refl, refl)
 
   -- A start that lists no unit was refused.
-  start-fault : {x : Step} {us : List Unit} {e : End} → Run l s x us e → us ≡ [] → (j : Judged) → x ≡ entered 0 (λ state. []) j →
+  start_fault : {x : Step} {us : List Unit} {e : End} → Run l s x us e → us ≡ [] → (j : Judged) → x ≡ entered 0 (λ state. []) j →
       (n : ℕ) × (at : ℕ) × (e ≡ fault n at)
   unfolding entered
-  start-fault ends none (Fault n k) q = clash cc
-  start-fault ends none (Found id action own len state) q = clash cc
-  start-fault (breaks {n} {at}) none j q = (n, at, refl)
-  start-fault (hands run) none j q = clash cc
+  start_fault ends none (Fault n k) q = clash cc
+  start_fault ends none (Found id action own len state) q = clash cc
+  start_fault (breaks {n} {at}) none j q = (n, at, refl)
+  start_fault (hands run) none j q = clash cc
 
   -- So it tells a root's ids,
   start_is : (listing l s).units ≡ [] → ((why_of l s).units ≡ []) × ((why_of l s).ids ≡ those root_kind ids_end)
   unfolding why_after open_around admitted_by
-  start_is none = let f = start-fault (listed l s) none (judge_of l true 0 s) refl in rw (why-after l s [] none, f.2) (refl, refl)
+  start_is none = let f = start_fault (listed l s) none (judge_of l true 0 s) refl in rw (why_after_lem l s [] none, f.2) (refl, refl)
 
-  pub refused-ids : (listing l s).units ≡ [] → (why_of l s).ids ≡ those root_kind ids_end
-  refused-ids none = (start_is none).1
+  pub refused_ids : (listing l s).units ≡ [] → (why_of l s).ids ≡ those root_kind ids_end
+  refused_ids none = (start_is none).1
 
   -- which are these.
   pub refused_start : (listing l s).units ≡ [] → ((why_of l s).units ≡ []) × ((why_of l s).ids ≡ 1 ∷ 4 ∷ 13 ∷ [])
@@ -133,51 +133,51 @@ module _ (l : Layout) (s : List ℕ) where
   refused_start none = let w = start_is none in (w.0, w.1)
 
   -- Number 10 comes of closing alone.
-  judged-never : (pos at : ℕ) (around : ℕ → List Open) (root : Bool) (state : ℕ) (t : List ℕ) →
+  judged_never : (pos at : ℕ) (around : ℕ → List Open) (root : Bool) (state : ℕ) (t : List ℕ) →
       entered pos around (judge_of l root state t) ≡ refused 10 at → ⊥
   unfolding entered
-  judged-never pos at around root state t e = go (judge_of l root state t) refl e
+  judged_never pos at around root state t e = go (judge_of l root state t) refl e
     where
       go : (j : Judged) → judge_of l root state t ≡ j → entered pos around j ≡ refused 10 at → ⊥
       go (Fault n k) q e = let z : n ≡ 10 = cc in omega (arith, (fault-told l root t state q).high)
       go (Found id action own len next) q e = clash cc
 
-  closing-ten : (os : List Open) (pos at : ℕ) → step l s os pos ≡ refused 10 at → Lacks (unclosed os pos)
+  closing_ten : (os : List Open) (pos at : ℕ) → step l s os pos ≡ refused 10 at → Lacks (unclosed os pos)
   unfolding step_by step_in_by
-  closing-ten os pos at e = go (close os pos) refl e
+  closing_ten os pos at e = go (close os pos) refl e
     where
       go : (c : Closing) → close os pos ≡ c → step_in l s pos c ≡ refused 10 at → Lacks (unclosed os pos)
       go (incomplete start) q e = lacking os pos start q
       go (left []) q e = clash cc
       go (left (o ∷ rest)) q e =
           let t = take (o.end - pos) (drop pos s) in
-          absurd (judged-never pos at (λ state. with_state o state ∷ rest) false o.state t e)
+          absurd (judged_never pos at (λ state. with_state o state ∷ rest) false o.state t e)
 
   -- The innermost of the open units, where it is incomplete, admits something.
-  lacking-ids : (us ws : List Unit) → States (map (open_of us) ws) → Lacks (map (open_of us) ws) → admitted_by us ws ≡ [] → ⊥
+  lacking_ids : (us ws : List Unit) → States (map (open_of us) ws) → Lacks (map (open_of us) ws) → admitted_by us ws ≡ [] → ⊥
   unfolding admitted_by every
-  lacking-ids us [] h k none = clash cc
-  lacking-ids us (w ∷ ws) h k none =
+  lacking_ids us [] h k none = clash cc
+  lacking_ids us (w ∷ ws) h k none =
       let first : open_of us w ≡ k.inner = cc in
       let same = ap (λ (o : Open). o.state) first in
       incomplete_admits (state_of us w) (both (is_state (state_of us w)) _ h).0 (rw same k.lacks) none
 
-  ten-from : (before : List Unit) (p : ReaderPlace) (at : ℕ) → Stands l s before p (refused 10 at) → admitted_by before (open_around before) ≡ [] → ⊥
-  ten-from [] p at h none = judged-never 0 at (λ state. []) true 0 s (sym h.1)
-  ten-from (u ∷ us) p at h none =
-      let same = around-units u us p h.0 in
-      lacking-ids (u ∷ us) (open_around (u ∷ us))
+  ten_from : (before : List Unit) (p : ReaderPlace) (at : ℕ) → Stands l s before p (refused 10 at) → admitted_by before (open_around before) ≡ [] → ⊥
+  ten_from [] p at h none = judged_never 0 at (λ state. []) true 0 s (sym h.1)
+  ten_from (u ∷ us) p at h none =
+      let same = around_units u us p h.0 in
+      lacking_ids (u ∷ us) (open_around (u ∷ us))
       (rw same at (unclosed_states p.units p.position (fitting l (length s) p h.0.fit).states))
-      (rw same at (closing-ten p.units p.position at (sym h.1))) none
+      (rw same at (closing_ten p.units p.position at (sym h.1))) none
 
-  ten-stops : (before : List Unit) (p : ReaderPlace) {x : Step} {e : End} → Stops l s x e → Stands l s before p x →
+  ten_stops : (before : List Unit) (p : ReaderPlace) {x : Step} {e : End} → Stops l s x e → Stands l s before p x →
       (why_after before e).number ≡ 10 → (why_after before e).ids ≡ [] → ⊥
   unfolding why_after
-  ten-stops before p at-end h z none = omega arith
-  ten-stops before p (at-fault {n} {at}) h z none = ten-from before p at (rw z at h) none
+  ten_stops before p at_end_lem h z none = omega arith
+  ten_stops before p (at_fault {n} {at}) h z none = ten_from before p at (rw z at h) none
 
   pub ten : (why_of l s).number ≡ 10 → (why_of l s).ids ≡ [] → ⊥
   ten z none =
       let f = final l s in
-      let e = why-after l s f.before f.units in
-      ten-stops f.before f.place f.stops f.stands (rw e at z) (rw e at none)
+      let e = why_after_lem l s f.before f.units in
+      ten_stops f.before f.place f.stops f.stands (rw e at z) (rw e at none)

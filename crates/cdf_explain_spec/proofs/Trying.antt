@@ -25,7 +25,7 @@ use Rattle.cdf_explain_spec.specs.Why.{kept_open, open_around, admitted_by}
 use Rattle.cdf_explain_spec.specs.Claims.{behind}
 use Rattle.cdf_explain_spec.proofs.Last.{Incomplete, by_closing}
 use Rattle.cdf_explain_spec.proofs.Admitted.{root_admits}
-use Rattle.cdf_explain_spec.proofs.Alike.{agree-front, agree-part, judge_same}
+use Rattle.cdf_explain_spec.proofs.Alike.{agree_front, agree_part, judge_same}
 
 module _ (l : Layout) where
   abbrev pub next_of : List ℕ → List Unit → Next
@@ -57,7 +57,7 @@ module _ (l : Layout) where
     state = 0;
     part = λ r. r;
     is = λ r. refl;
-    alike = λ m k r q a h few. (a.0, agree-front m r q a k (omega arith));
+    alike = λ m k r q a h few. (a.0, agree_front m r q a k (omega arith));
     put = λ r i v h. let e : 0 + i ≡ i = omega arith in rw e;
     may = root_kind;
     ids = refl;
@@ -79,7 +79,7 @@ module _ (l : Layout) where
       state = state_of (u ∷ us) o;
       part = λ r. take (o.end - pos) (drop pos r);
       is = λ r. rw (c, e);
-      alike = λ m k r q a h few. agree-part m r q a pos k (o.end - pos) h (omega (arith, length-take (o.end - pos) (drop pos r)));
+      alike = λ m k r q a h few. agree_part m r q a pos k (o.end - pos) h (omega (arith, length-take (o.end - pos) (drop pos r)));
       put = λ r i v h.
           rw (drop-set-add pos r i v)
           (take-set-lt (o.end - pos) (drop pos r) i v (omega (arith, length-take (o.end - pos) (drop pos r))));
@@ -150,9 +150,9 @@ module _ (l : Layout) where
       rw w.unit (omega (arith, p.room), between.0)
 
   -- and bytes that agree up to these list it too.
-  pub next-same : (m : ℕ) (r q : List ℕ) (us : List Unit) (u : Unit) → Agree m r q → u.own ≤ m → next_of r us ≡ listed u → next_of q us ≡ listed u
+  pub next_same : (m : ℕ) (r q : List ℕ) (us : List Unit) (u : Unit) → Agree m r q → u.own ≤ m → next_of r us ≡ listed u → next_of q us ≡ listed u
   unfolding unit_at
-  next-same m r q us u a h e =
+  next_same m r q us u a h e =
       let w = lists r us u e in
       let p = placed l w.tried.root w.tried.state (w.tried.part r) w.judged in
       let far : behind us + w.own ≤ m = rw w.unit at h in

@@ -27,9 +27,9 @@ no_trees none = (λ e. refl, λ e. refl)
 no_trees (tree id action text inner rest) = (λ e. absurd (cons≢nil e), λ e. clash cc)
 
 module _ (l : Layout) (id action : ℕ) (text : List ℕ) (inner : Forest) where
-  follows-passes : Follows id action text inner → Passes l id action text inner
+  follows_passes : Follows id action text inner → Passes l id action text inner
   unfolding encode
-  follows-passes f =
+  follows_passes f =
       let allowed : action_allowed id action ≡ true = (acts_agree id action).0 f.acts in
       let leaf : opens id ≡ false → inner ≡ none = λ o. (no_trees inner).0 ((leaf_agrees id o (ids inner)).0 f.holds) in
       record {
@@ -41,9 +41,9 @@ module _ (l : Layout) (id action : ℕ) (text : List ℕ) (inner : Forest) where
         leaf = leaf;
       }
 
-  passes-follows : Passes l id action text inner → Follows id action text inner
+  passes_follows : Passes l id action text inner → Follows id action text inner
   unfolding encode
-  passes-follows p =
+  passes_follows p =
       let w = go (opens id) refl in
       record {
         acts = (acts_agree id action).1 p.allowed;
@@ -59,11 +59,11 @@ module _ (l : Layout) (id action : ℕ) (text : List ℕ) (inner : Forest) where
 
 pub fits : (l : Layout) (t : Forest) → Conforms t → Fits l t
 fits l none c = c
-fits l (tree id action text inner rest) c = (follows-passes l id action text inner c.0, fits l inner c.1, fits l rest c.2)
+fits l (tree id action text inner rest) c = (follows_passes l id action text inner c.0, fits l inner c.1, fits l rest c.2)
 
 pub conforms : (l : Layout) (t : Forest) → Fits l t → Conforms t
 conforms l none f = f
-conforms l (tree id action text inner rest) f = (passes-follows l id action text inner f.0, conforms l inner f.1, conforms l rest f.2)
+conforms l (tree id action text inner rest) f = (passes_follows l id action text inner f.0, conforms l inner f.1, conforms l rest f.2)
 
 -- The root is one unit, of a kind that a stream may have as its root.
 pub root_agrees : (t : Forest) → Spells cdf_data_stream (ids t) ↔ ((id : ℕ) × (ids t ≡ id ∷ []) × (root_kind id ≡ true))

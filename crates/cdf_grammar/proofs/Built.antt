@@ -15,7 +15,7 @@ use Rattle.cdf_unit_data.proofs.Taken.{taken_fits}
 use Rattle.cdf_grammar.specs.Trees.{Forest, none, tree}
 use Rattle.cdf_grammar.specs.Encoding.{prefix_bytes, unit_bytes, encode}
 use Rattle.cdf_grammar.proofs.Fits.{own_of, Passes}
-use Rattle.cdf_grammar.proofs.Prefixes.{length-prefix, mark-read, length-read, action-read, id-read}
+use Rattle.cdf_grammar.proofs.Prefixes.{length_prefix, mark_read, length_read, action_read, id_read}
 
 -- How many bytes a unit has.
 abbrev pub size_of : Layout → List ℕ → Forest → ℕ
@@ -43,7 +43,7 @@ unit_is l id action text inner = refl
 
 pub length_unit : (l : Layout) (id action : ℕ) (text inner : List ℕ) →
     length (unit_bytes l id action text inner) ≡ prefix_of l + (length text + length inner)
-length_unit l id action text inner = simp (unit_is, length-append, length-prefix)
+length_unit l id action text inner = simp (unit_is, length-append, length_prefix)
 
 pub length_tree : (l : Layout) (id action : ℕ) (text : List ℕ) (inner rest : Forest) →
     length (encode l (tree id action text inner rest)) ≡ size_of l text inner + length (encode l rest)
@@ -63,16 +63,16 @@ unit_judged {l} {id} {action} {text} {inner} p small root state next may some mo
     let same : (front ++ body) ++ more ≡ s = append_assoc front body more in
     let few = taken_fits _ id body (own_of id text) p.taken in
     let long : length body ≡ length text + length (encode l inner) = length-append text (encode l inner) in
-    let all : length s ≡ size + length more = simp (length-append, length-prefix) (omega arith) in
-    let behind = drop_at front (body ++ more) (prefix_of l) (length-prefix l size action id) in
+    let all : length s ≡ size + length more = simp (length-append, length_prefix) (omega arith) in
+    let behind = drop_at front (body ++ more) (prefix_of l) (length_prefix l size action id) in
     let cut : size - prefix_of l ≡ length body = omega arith in
     let own : prefix_of l + own_of id text - prefix_of l ≡ own_of id text = omega arith in
     rw (unit_is, same)
     (judged l root state s (record {
-      mark = mark-read l size action id (body ++ more);
-      is_id = sym (id-read l size action id (body ++ more));
-      is_action = sym (action-read l size action id (body ++ more));
-      is_length = sym (length-read l size action id (body ++ more) small);
+      mark = mark_read l size action id (body ++ more);
+      is_id = sym (id_read l size action id (body ++ more));
+      is_action = sym (action_read l size action id (body ++ more));
+      is_length = sym (length_read l size action id (body ++ more) small);
       recognised = p.recognised;
       may = may;
       some = some;

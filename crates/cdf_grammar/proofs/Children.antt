@@ -59,26 +59,26 @@ repeats state table unmet met =
     beyond c h = rw (admit_unknown state c h, admit_unknown (suc state) c h)
 
 module _ {state : ℕ} (r : Repeats state) where
-  through-firsts : (cs : List ℕ) → Firsts state cs → through (suc state) cs ≡ suc state
+  through_firsts : (cs : List ℕ) → Firsts state cs → through (suc state) cs ≡ suc state
   unfolding through
-  through-firsts [] h = refl
-  through-firsts (c ∷ cs) h = rw (r.again c, r.next c h.0) (through-firsts cs h.1)
+  through_firsts [] h = refl
+  through_firsts (c ∷ cs) h = rw (r.again c, r.next c h.0) (through_firsts cs h.1)
 
-  firsts-through : (cs : List ℕ) → complete (through (suc state) cs) ≡ true → Firsts state cs
+  firsts_through : (cs : List ℕ) → complete (through (suc state) cs) ≡ true → Firsts state cs
   unfolding through
-  firsts-through [] e = record {}
-  firsts-through (c ∷ cs) e =
+  firsts_through [] e = record {}
+  firsts_through (c ∷ cs) e =
       let may : admit state c ≡ 0 → ⊥ = λ z. complete_some (through (admit (suc state) c) cs) e (rw (r.again c, z) (through_none cs)) in
-      (may, firsts-through cs (rw (r.again c, r.next c may) at e))
+      (may, firsts_through cs (rw (r.again c, r.next c may) at e))
 
-  complete-firsts : (cs : List ℕ) → (complete (through state cs) ≡ true) ↔ ((cs ≡ [] → ⊥) × Firsts state cs)
+  complete_firsts : (cs : List ℕ) → (complete (through state cs) ≡ true) ↔ ((cs ≡ [] → ⊥) × Firsts state cs)
   unfolding through
-  complete-firsts [] = (λ e. absurd (false≢true (sym r.unmet ∙ e)), λ h. absurd (h.0 refl))
-  complete-firsts (c ∷ cs) = (
+  complete_firsts [] = (λ e. absurd (false≢true (sym r.unmet ∙ e)), λ h. absurd (h.0 refl))
+  complete_firsts (c ∷ cs) = (
     λ e.
         let may : admit state c ≡ 0 → ⊥ = λ z. complete_some (through (admit state c) cs) e (rw z (through_none cs)) in
-        (λ z. cons≢nil z, (may, firsts-through cs (rw (r.next c may) at e))),
-    λ h. rw (r.next c h.1.0, through-firsts cs h.1.1) r.met,
+        (λ z. cons≢nil z, (may, firsts_through cs (rw (r.next c may) at e))),
+    λ h. rw (r.next c h.1.0, through_firsts cs h.1.1) r.met,
   )
 
 -- What both kinds of group have: no action, no own data, and any number, from one on, of what they admit.
@@ -92,9 +92,9 @@ pub record GroupKind (group : ℕ) : Type 0 where
 pub group_kind : (group : ℕ) → Among group (er_group ∷ file_group ∷ []) → GroupKind group
 unfolding found due production_of nothing opens admit complete root_kind
 group_kind group (inl e) =
-    rw e (record { acts = inl refl; says = refl; opens = refl; root = refl; full = complete-firsts (repeats er_new refl refl refl) })
+    rw e (record { acts = inl refl; says = refl; opens = refl; root = refl; full = complete_firsts (repeats er_new refl refl refl) })
 group_kind group (inr (inl e)) =
-    rw e (record { acts = inl refl; says = refl; opens = refl; root = refl; full = complete-firsts (repeats file_new refl refl refl) })
+    rw e (record { acts = inl refl; says = refl; opens = refl; root = refl; full = complete_firsts (repeats file_new refl refl refl) })
 group_kind group (inr (inr e)) = absurd e
 
 -- These bytes are a unit that is taken in this state, by the rules of one unit.
@@ -108,15 +108,15 @@ AllTaken l state [] = record {}
 AllTaken l state (s ∷ parts) = Taken l state s × AllTaken l state parts
 
 module _ (l : Layout) where
-  children-taken : (group : ℕ) (parts : List (List ℕ)) → Bytes (flatten parts) → Children l group parts → AllTaken l (nothing group) parts
+  children_taken : (group : ℕ) (parts : List (List ℕ)) → Bytes (flatten parts) → Children l group parts → AllTaken l (nothing group) parts
   unfolding flatten
-  children-taken group [] b c = record {}
-  children-taken group (s ∷ parts) b (c, more) =
+  children_taken group [] b c = record {}
+  children_taken group (s ∷ parts) b (c, more) =
       let bytes = bytes_both s (flatten parts) b in
       let w = stands l (nothing group) s c.accepted in
       let all : take (length_at l s) s ≡ s = ap (λ n. take n s) c.whole ∙ take-length s in
       let unit : UnitIs l w.id s = rw all at (w.unit bytes.0) in
-      (record { id = w.id; may = w.may; unit = unit }, children-taken group parts bytes.1 more)
+      (record { id = w.id; may = w.may; unit = unit }, children_taken group parts bytes.1 more)
 
   -- Their trees.
   record Gathered (state : ℕ) (parts : List (List ℕ)) : Type 0 where
@@ -139,20 +139,20 @@ module _ (l : Layout) where
         units = rw (bytes, h.units);
       }
 
-  encode-singly : (t : Forest) → encode l t ≡ flatten (map (encode l) (singly t))
+  encode_singly : (t : Forest) → encode l t ≡ flatten (map (encode l) (singly t))
   unfolding singly flatten
-  encode-singly none = encode_none l
-  encode-singly (tree id action text inner rest) = rw (encode_tree, encode_one, ← encode-singly rest)
+  encode_singly none = encode_none l
+  encode_singly (tree id action text inner rest) = rw (encode_tree, encode_one, ← encode_singly rest)
 
   no_units : (t : Forest) → (ids t ≡ []) ↔ (map (encode l) (singly t) ≡ [])
   unfolding ids singly
   no_units none = (λ e. refl, λ e. refl)
   no_units (tree id action text inner rest) = (λ e. absurd (cons≢nil e), λ e. absurd (cons≢nil e))
 
-  pub group-holds : (group : ℕ) → Among group (er_group ∷ file_group ∷ []) → (parts : List (List ℕ)) → (parts ≡ [] → ⊥) →
+  pub group_holds : (group : ℕ) → Among group (er_group ∷ file_group ∷ []) → (parts : List (List ℕ)) → (parts ≡ [] → ⊥) →
       AllTaken l (nothing group) parts → length (group_bytes l group parts) ≤ l.limit → Holds l group parts
   unfolding ids group_bytes
-  group-holds group is parts some all within =
+  group_holds group is parts some all within =
       let kind = group_kind group is in
       let h = gathered (nothing group) parts all in
       let full = (kind.full (ids h.trees)).1 (λ z. some (sym h.units ∙ (no_units h.trees).0 z), h.firsts) in
@@ -170,16 +170,16 @@ module _ (l : Layout) where
             conforms = (follows, conforms l h.trees h.fit, record {});
           };
           within = within;
-          bytes = rw (encode_one, encode-singly h.trees, h.units);
+          bytes = rw (encode_one, encode_singly h.trees, h.units);
         };
       }
 
   -- And back: each tree in a group is one that it takes as its first.
-  singly-children : (group : ℕ) (t : Forest) → Fits l t → Firsts (nothing group) (ids t) → length (encode l t) < 256 ^ l.length_bytes →
+  singly_children : (group : ℕ) (t : Forest) → Fits l t → Firsts (nothing group) (ids t) → length (encode l t) < 256 ^ l.length_bytes →
       Children l group (map (encode l) (singly t))
   unfolding ids singly
-  singly-children group none fit firsts small = record {}
-  singly-children group (tree id action text inner rest) fit firsts small =
+  singly_children group none fit firsts small = record {}
+  singly_children group (tree id action text inner rest) fit firsts small =
       let long = length_tree l id action text inner rest in
       let one = encode_one l id action text inner in
       let unit = unit_bytes l id action text (encode l inner) in
@@ -187,7 +187,7 @@ module _ (l : Layout) where
       let size = ap length one ∙ length_unit l id action text (encode l inner) in
       let w = stands_tree (fit.0, fit.1, record {}) (omega arith) (nothing group) firsts.0 _ [] here in (
         record { accepted = w.0; whole = w.1 ∙ sym size },
-        singly-children group rest fit.2 firsts.1 (omega arith),
+        singly_children group rest fit.2 firsts.1 (omega arith),
       )
 
   pub children : l.limit < 256 ^ l.length_bytes → (group : ℕ) → Among group (er_group ∷ file_group ∷ []) → (parts : List (List ℕ)) →
@@ -195,7 +195,7 @@ module _ (l : Layout) where
       Holds l group parts ↔ ((parts ≡ [] → ⊥) × Children l group parts × (length (group_bytes l group parts) ≤ l.limit))
   unfolding group_bytes
   children wide group is parts b =
-      (λ h. back h.held h.trees h.stream, λ w. group-holds group is parts w.0 (children-taken group parts b w.1) w.2)
+      (λ h. back h.held h.trees h.stream, λ w. group_holds group is parts w.0 (children_taken group parts b w.1) w.2)
     where
       back : (held : Forest) → map (encode l) (singly held) ≡ parts → Stream l (group_bytes l group parts) (tree group 0 [] held none) →
           (parts ≡ [] → ⊥) × Children l group parts × (length (group_bytes l group parts) ≤ l.limit)
@@ -205,7 +205,7 @@ module _ (l : Layout) where
           let w = (kind.full (ids held)).0 ((content_agrees group kind.opens (ids held)).0 c.0.holds) in
           let long = length_tree l group 0 [] held none in
           let small : length (encode l held) < 256 ^ l.length_bytes = omega (arith, ap length stream.bytes, stream.within) in
-          let all = singly-children group held (fits l held c.1) w.1 small in (
+          let all = singly_children group held (fits l held c.1) w.1 small in (
             λ z. w.0 ((no_units held).1 (trees ∙ z)),
             rw trees at all,
             stream.within,

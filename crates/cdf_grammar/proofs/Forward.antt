@@ -18,12 +18,12 @@ use Rattle.cdf_unit_list.proofs.Entering.{unit_from}
 use Rattle.cdf_grammar.specs.Trees.{Forest, none, tree, ids, units}
 use Rattle.cdf_grammar.specs.Encoding.{unit_bytes, encode, list}
 use Rattle.cdf_grammar.proofs.Fits.{through, through_none, complete_some, own_of, Passes, Fits}
-use Rattle.cdf_grammar.proofs.Prefixes.{length-prefix}
+use Rattle.cdf_grammar.proofs.Prefixes.{length_prefix}
 use Rattle.cdf_grammar.proofs.Built.{encode_tree, size_of, unit_is, length_unit, length_tree, unit_judged}
 use Rattle.cdf_unit_table.proofs.Bools.{clash}
 use Rattle.cdf_unit_table.proofs.Rows.{admits_nested}
-use Rattle.cdf_unit_list.proofs.Stepping.{fresh, step-inside, step-closes, steps-end, steps_on}
-use Rattle.cdf_unit_list.proofs.Stepping.{enters, opened-parent, opened-leaf}
+use Rattle.cdf_unit_list.proofs.Stepping.{fresh, step_inside, step_closes, steps_end, steps_on}
+use Rattle.cdf_unit_list.proofs.Stepping.{enters, opened_parent, opened_leaf}
 
 -- Where the units nested in a unit with this text stand.
 abbrev pub inner_at : Layout → ℕ → List ℕ → ℕ
@@ -71,8 +71,8 @@ module _ (l : Layout) (S : List ℕ) where
     u = unit_here l pos id action text inner
 
     module _ (more : List ℕ) (here : drop pos S ≡ unit_bytes l id action text (encode l inner) ++ more) where
-      inner-here : drop (inner_at l pos text) S ≡ encode l inner ++ more
-      inner-here =
+      inner_here : drop (inner_at l pos text) S ≡ encode l inner ++ more
+      inner_here =
           rw (
             ← drop-drop (length text) (pos + prefix_of l) S,
             ← drop-drop (prefix_of l) pos S,
@@ -80,24 +80,24 @@ module _ (l : Layout) (S : List ℕ) where
             unit_is,
             append_assoc,
             append_assoc,
-            drop_at _ _ _ (length-prefix l (size_of l text inner) action id),
+            drop_at _ _ _ (length_prefix l (size_of l text inner) action id),
             drop_at text (encode l inner ++ more) (length text) refl,
           )
 
-      rest-here : drop u.end S ≡ more
-      rest-here =
+      rest_here : drop u.end S ≡ more
+      rest_here =
           let n = length (encode l inner) in
           let e : u.end ≡ inner_at l pos text + n = omega arith in
-          rw (e, ← drop-drop n (inner_at l pos text) S, inner-here, drop_at (encode l inner) more n refl)
+          rw (e, ← drop-drop n (inner_at l pos text) S, inner_here, drop_at (encode l inner) more n refl)
 
       module _ (p : Passes l id action text inner) (over-inner : Listed inner) where
         -- A unit that admits others closes at its end; any other has none nested.
-        over-opened : (b : Bool) → opens id ≡ b → (os : List Open) (F : ℕ) (us : List Unit) →
+        over_opened : (b : Bool) → opens id ≡ b → (os : List Open) (F : ℕ) (us : List Unit) →
             steps_from (units inner + F) l S (step l S (opened u os) (after u)) us
             ≡ steps_from F l S (step l S os u.end) (reverse_aux (list l (inner_at l pos text) inner) us)
         unfolding units list encode with_state
-        over-opened true e os F us =
-            let w = opened-parent u os e in
+        over_opened true e os F us =
+            let w = opened_parent u os e in
             let state = through (nothing id) (ids inner) in
             let full = p.full e in
             let end : inner_at l pos text + length (encode l inner) ≡ u.end = omega arith in
@@ -105,22 +105,22 @@ module _ (l : Layout) (S : List ℕ) where
               w.0,
               w.1,
               p.exact e,
-              over-inner (inner_at l pos text) more (fresh u) os F us inner-here (omega arith) (complete_some state full),
+              over-inner (inner_at l pos text) more (fresh u) os F us inner_here (omega arith) (complete_some state full),
               end,
-              step-closes l S (with_state (fresh u) state) os u.end refl,
+              step_closes l S (with_state (fresh u) state) os u.end refl,
               full,
             )
-        over-opened false e os F us =
-            let w = opened-leaf u os e in
+        over_opened false e os F us =
+            let w = opened_leaf u os e in
             let fuel : 0 + F ≡ F = omega arith in
             rw (w.0, w.1, p.leaf e, fuel)
 
-        over-entered : (around : ℕ → List Open) (next F : ℕ) (us : List Unit) →
+        over_entered : (around : ℕ → List Open) (next F : ℕ) (us : List Unit) →
             steps_from (suc (units inner + F)) l S
             (entered pos around (Found id action (prefix_of l + own_of id text) (size_of l text inner) next)) us
             ≡ steps_from F l S (step l S (around next) u.end) (reverse_aux (list l (inner_at l pos text) inner) (u ∷ us))
-        over-entered around next F us =
-            rw (enters, unit_here_lem l pos id action text inner, steps_on) (over-opened (opens id) refl (around next) F (u ∷ us))
+        over_entered around next F us =
+            rw (enters, unit_here_lem l pos id action text inner, steps_on) (over_opened (opens id) refl (around next) F (u ∷ us))
 
   over_none : Listed none
   unfolding units ids through list with_state
@@ -129,10 +129,10 @@ module _ (l : Layout) (S : List ℕ) where
       let at : pos + 0 ≡ pos = omega arith in
       rw (fuel, at)
 
-  over-tree : (id action : ℕ) (text : List ℕ) (inner rest : Forest) → Passes l id action text inner →
+  over_tree : (id action : ℕ) (text : List ℕ) (inner rest : Forest) → Passes l id action text inner →
       size_of l text inner < 256 ^ l.length_bytes → Listed inner → Listed rest → Listed (tree id action text inner rest)
   unfolding units ids through with_state
-  over-tree id action text inner rest p small over-inner over-rest pos more o os F us here room some =
+  over_tree id action text inner rest p small over-inner over-rest pos more o os F us here room some =
       let next = admit o.state id in
       let end = (unit_here l pos id action text inner).end in
       let bytes = unit_bytes l id action text (encode l inner) in
@@ -154,11 +154,11 @@ module _ (l : Layout) (S : List ℕ) where
       let stop : pos + length (encode l (tree id action text inner rest)) ≡ end + length (encode l rest) = omega arith in
       rw (
         fuel,
-        step-inside l S o os pos (omega arith),
+        step_inside l S o os pos (omega arith),
         left,
         judged,
-        over-entered pos id action text inner later front p over-inner (λ state. with_state o state ∷ os) next (units rest + F) us,
-        over-rest end more (with_state o next) os F _ (rest-here pos id action text inner later front) (omega arith) some,
+        over_entered pos id action text inner later front p over-inner (λ state. with_state o state ∷ os) next (units rest + F) us,
+        over-rest end more (with_state o next) os F _ (rest_here pos id action text inner later front) (omega arith) some,
         stop,
         list_tree,
         reverse_aux-append,
@@ -169,7 +169,7 @@ module _ (l : Layout) (S : List ℕ) where
   over none fit small = over_none
   over (tree id action text inner rest) fit small =
       let long = length_tree l id action text inner rest in
-      over-tree id action text inner rest fit.0 (omega arith) (over inner fit.1 (omega arith)) (over rest fit.2 (omega arith))
+      over_tree id action text inner rest fit.0 (omega arith) (over inner fit.1 (omega arith)) (over rest fit.2 (omega arith))
 
 pub length_list : (l : Layout) (pos : ℕ) (t : Forest) → length (list l pos t) ≡ units t
 unfolding units list
@@ -200,8 +200,8 @@ front_lists {l} {id} {action} {text} {inner} p fit small next s more here =
     let over-inner = over l s inner fit (omega arith) in
     rw (
       fuel,
-      over-entered l s 0 id action text inner more here p over-inner (λ state. []) next (suc left) [],
-      steps-end,
+      over_entered l s 0 id action text inner more here p over-inner (λ state. []) next (suc left) [],
+      steps_end,
       reverse_aux-reverse_aux-nil,
       list_one,
     )

@@ -17,7 +17,7 @@ use Rattle.cdf_unit_table.specs.Heights.{height}
 use Rattle.cdf_unit_table.proofs.Heights.{height_most}
 use Rattle.cdf_grammar.proofs.Heights.{OfHeight, Lower, lower, nested}
 use Rattle.cdf_grammar.proofs.Unique.{leaf_empty, unit_parts}
-use Rattle.cdf_grammar.proofs.Prefixes.{length-prefix}
+use Rattle.cdf_grammar.proofs.Prefixes.{length_prefix}
 use Rattle.cdf_grammar.proofs.Built.{length_unit}
 
 abbrev item : ℕ → ℕ → List ℕ → Item
@@ -88,7 +88,7 @@ past_prefix : (l : Layout) (s : List ℕ) (at id action : ℕ) (text : List ℕ)
 unfolding encode
 past_prefix l s at id action text inner rest back e =
     let len = prefix_of l + (length text + length (encode l inner)) in
-    rw (length-prefix l len action id) at
+    rw (length_prefix l len action id) at
     (past s at (prefix_bytes l len action id) (text ++ (encode l inner ++ (encode l rest ++ back)))
     (e ∙ append_assoc (unit_bytes l id action text (encode l inner)) (encode l rest) back
     ∙ unit_parts l id action text (encode l inner) (encode l rest ++ back)))

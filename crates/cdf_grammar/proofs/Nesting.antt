@@ -21,7 +21,7 @@ use Rattle.cdf_unit_judge.specs.declared.Judged.{Judged}
 use Rattle.cdf_unit_judge.specs.declared.Judged.TheVariants.{Fault, Found}
 use Rattle.cdf_unit_judge.proofs.Placed.{placed}
 use Rattle.cdf_unit_list.proofs.Entering.{after_between, unit_from}
-use Rattle.cdf_unit_list.proofs.Stepping.{fresh, step-inside, step-closes, refused-never, spent-never}
+use Rattle.cdf_unit_list.proofs.Stepping.{fresh, step_inside, step_closes, refused_never, spent_never}
 
 -- What closing leaves of a stack with others around it, from what it leaves of the stack alone.
 abbrev pub close_onward : List Open → ℕ → Closing → Closing
@@ -117,10 +117,10 @@ module _ (l : Layout) (S : List ℕ) where
   Inner pos end (refused n at) = record {}
   Inner pos end (found u os later) = Lies pos end u × (pos ≤ later) × Spans later os end
 
-  step-spans : (os : List Open) (pos end : ℕ) → Spans pos os end → Inner pos end (step l S os pos)
+  step_spans : (os : List Open) (pos end : ℕ) → Spans pos os end → Inner pos end (step l S os pos)
   unfolding step_by with_state
-  step-spans [] pos end h = h
-  step-spans (o ∷ os) pos end h = go (dec_lt pos o.end) (step-spans os pos end)
+  step_spans [] pos end h = h
+  step_spans (o ∷ os) pos end h = go (dec_lt pos o.end) (step_spans os pos end)
     where
       s : List ℕ
       s = take (o.end - pos) (drop pos S)
@@ -141,10 +141,10 @@ module _ (l : Layout) (S : List ℕ) where
       closes false more = record {}
 
       go : Dec (pos < o.end) → (Spans pos os end → Inner pos end (step l S os pos)) → Inner pos end (step l S (o ∷ os) pos)
-      go (yes p) more = rw (step-inside l S o os pos p) (unit (judge_of l false o.state s) refl)
+      go (yes p) more = rw (step_inside l S o os pos p) (unit (judge_of l false o.state s) refl)
       go (no p) more =
           let at : o.end ≡ pos = omega arith in
-          rw (step-closes l S o os pos at) (closes (complete o.state) (more (rw at at h.1)))
+          rw (step_closes l S o os pos at) (closes (complete o.state) (more (rw at at h.1)))
 
   -- The listing goes on: after those units the steps are those of what is around, from the end.
   pub record Leaves (outer : List Open) (pos end F : ℕ) (us : List Unit) (x : Listing) : Type 0 where
@@ -168,50 +168,50 @@ module _ (l : Layout) (S : List ℕ) where
         x ≡ record { units = reverse (seen ++ us); end = k } → Nests outer from end N us x
     stop seen v never e = inl (record { inside = seen; within = v; units = rw e; unended = λ q. never (rw e at q) })
 
-    nest-from : (F : ℕ) → NestsFrom F
+    nest_from : (F : ℕ) → NestsFrom F
     unfolding steps_from
-    nest-from zero h inner pos low w seen v e = stop seen v (spent-never l S (step l S (inner ++ outer) pos) (seen ++ us)) e
-    nest-from (suc F) h inner pos low w seen v e =
-        go (step l S inner pos) (step-spans inner pos end w) (rw nest_step at e) (nest-from F)
+    nest_from zero h inner pos low w seen v e = stop seen v (spent_never l S (step l S (inner ++ outer) pos) (seen ++ us)) e
+    nest_from (suc F) h inner pos low w seen v e =
+        go (step l S inner pos) (step_spans inner pos end w) (rw nest_step at e) (nest_from F)
       where
         go : (y : Step) → Inner pos end y → x ≡ steps_from (suc F) l S (onward outer pos y) (seen ++ us) → NestsFrom F →
             Nests outer from end N us x
         go done at e more = inr (record { inside = seen; within = v; fuel = suc F; less = h; on = rw at at e })
-        go (refused n at) i e more = stop seen v (refused-never l S (suc F) n at (seen ++ us)) e
+        go (refused n at) i e more = stop seen v (refused_never l S (suc F) n at (seen ++ us)) e
         go (found u os later) i e more =
             let lies : Lies from end u = record { low = omega arith; nonempty = omega arith; high = omega arith } in
             more (omega arith) os later (omega arith) i.2 (u ∷ seen) (lies, v) e
 
   pub nest : (F : ℕ) (inner outer : List Open) (pos end : ℕ) (us : List Unit) → Spans pos inner end →
       Nests outer pos end F us (steps_from F l S (step l S (inner ++ outer) pos) us)
-  nest F inner outer pos end us w = nest-from outer pos end F us _ F (omega arith) inner pos (omega arith) w [] (record {}) refl
+  nest F inner outer pos end us w = nest_from outer pos end F us _ F (omega arith) inner pos (omega arith) w [] (record {}) refl
 
   -- From anywhere in one open unit, and from where a unit was just entered, also one that admits no others.
-  pub nest-open : (F : ℕ) (o : Open) (outer : List Open) (pos : ℕ) (us : List Unit) → pos ≤ o.end →
+  pub nest_open : (F : ℕ) (o : Open) (outer : List Open) (pos : ℕ) (us : List Unit) → pos ≤ o.end →
       Nests outer pos o.end F us (steps_from F l S (step l S (o ∷ outer) pos) us)
-  nest-open F o outer pos us h = nest F (o ∷ []) outer pos o.end us (h, refl)
+  nest_open F o outer pos us h = nest F (o ∷ []) outer pos o.end us (h, refl)
 
-  pub nest-unit : (F : ℕ) (u : Unit) (outer : List Open) (us : List Unit) → u.own ≤ u.end →
+  pub nest_unit : (F : ℕ) (u : Unit) (outer : List Open) (us : List Unit) → u.own ≤ u.end →
       Nests outer (after u) u.end F us (steps_from F l S (step l S (opened u outer) (after u)) us)
-  nest-unit F u outer us h =
+  nest_unit F u outer us h =
       rw (nest_opened u [] outer) (nest F (opened u []) outer (after u) u.end us (opened_spans u [] u.end h refl))
 
   -- The units before do not change what the steps list after them.
-  units-after : (F : ℕ) (y : Step) (us : List Unit) → (steps_from F l S y us).units ≡ reverse_aux us (steps_from F l S y []).units
+  units_after : (F : ℕ) (y : Step) (us : List Unit) → (steps_from F l S y us).units ≡ reverse_aux us (steps_from F l S y []).units
   unfolding steps_from
-  units-after zero y us = refl
-  units-after (suc F) done us = refl
-  units-after (suc F) (refused n at) us = refl
-  units-after (suc F) (found u os pos) us =
-      rw (units-after F (step l S os pos) (u ∷ us), units-after F (step l S os pos) (u ∷ []))
+  units_after zero y us = refl
+  units_after (suc F) done us = refl
+  units_after (suc F) (refused n at) us = refl
+  units_after (suc F) (found u os pos) us =
+      rw (units_after F (step l S os pos) (u ∷ us), units_after F (step l S os pos) (u ∷ []))
 
   first_found : (F : ℕ) (y : Step) (us : List Unit) → (steps_from F l S y us).end ≡ ended → First y (steps_from F l S y []).units
   unfolding steps_from
-  first_found zero y us q = absurd (spent-never l S y us q)
+  first_found zero y us q = absurd (spent_never l S y us q)
   first_found (suc F) done us q = refl
-  first_found (suc F) (refused n at) us q = refused-never l S (suc F) n at us q
+  first_found (suc F) (refused n at) us q = refused_never l S (suc F) n at us q
   first_found (suc F) (found u os pos) us q =
-      ((steps_from F l S (step l S os pos) []).units, units-after F (step l S os pos) (u ∷ []))
+      ((steps_from F l S (step l S os pos) []).units, units_after F (step l S os pos) (u ∷ []))
 
   -- In the words of the unit list: the units before, those inside, and then first what a step of what is around finds.
   pub record Skips (outer : List Open) (pos end : ℕ) (us : List Unit) (x : Listing) : Type 0 where
@@ -234,6 +234,6 @@ module _ {l : Layout} {S : List ℕ} {outer : List Open} {pos end F : ℕ} {us :
         inside = v.inside;
         within = v.within;
         later = (steps_from v.fuel l S y []).units;
-        units = ap (λ z. z.units) v.on ∙ rw (units-after l S v.fuel y (v.inside ++ us), reverse_aux-append);
+        units = ap (λ z. z.units) v.on ∙ rw (units_after l S v.fuel y (v.inside ++ us), reverse_aux-append);
         next = first_found l S v.fuel y (v.inside ++ us) (rw v.on at q);
       }

@@ -26,11 +26,11 @@ unfolding keys_among
 then_fields cs fs (inl e) h = inl (rw e (ap (λ r. temporary_key ∷ r) (keys_none fs h)))
 then_fields cs fs (inr (front, rest, e, p, more)) h =
     let all = pieces_each template_key more in
-    rw (e, p) (inr ((λ z. clash cc), (refl, rw (keys-then rest fs all h) all)))
+    rw (e, p) (inr ((λ z. clash cc), (refl, rw (keys_then rest fs all h) all)))
   where
-    keys-then : (cs fs : List ℕ) → Each (λ c. c ≡ template_key) cs → Each (λ c. c ≡ field) fs → keys_among (cs ++ fs) ≡ cs
-    keys-then [] fs all h = keys_none fs h
-    keys-then (c ∷ cs) fs all h = rw all.0 (ap (λ r. template_key ∷ r) (keys-then cs fs all.1 h))
+    keys_then : (cs fs : List ℕ) → Each (λ c. c ≡ template_key) cs → Each (λ c. c ≡ field) fs → keys_among (cs ++ fs) ≡ cs
+    keys_then [] fs all h = keys_none fs h
+    keys_then (c ∷ cs) fs all h = rw all.0 (ap (λ r. template_key ∷ r) (keys_then cs fs all.1 h))
 
 template_keys : (cs : List ℕ) → Spells (production_of template).content cs → OneKind (keys_among cs)
 unfolding production_of

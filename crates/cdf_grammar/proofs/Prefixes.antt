@@ -14,29 +14,29 @@ use Rattle.cdf_grammar.specs.Encoding.{bytes_of, prefix_bytes, Bytes}
 use Rattle.cdf_grammar.proofs.Numbers.{length_bytes_lem, number_read, number_written}
 
 module _ (l : Layout) (len action id : ℕ) where
-  pub length-prefix : length (prefix_bytes l len action id) ≡ prefix_of l
+  pub length_prefix : length (prefix_bytes l len action id) ≡ prefix_of l
   unfolding prefix_bytes
-  length-prefix = simp (length-append, length_bytes_lem) (omega arith)
+  length_prefix = simp (length-append, length_bytes_lem) (omega arith)
 
   module _ (more : List ℕ) where
-    pub mark-read : marked l (prefix_bytes l len action id ++ more) ≡ true
+    pub mark_read : marked l (prefix_bytes l len action id ++ more) ≡ true
     unfolding prefix_bytes marked
-    mark-read = rw (eq-eqb l.mark l.mark refl)
+    mark_read = rw (eq-eqb l.mark l.mark refl)
 
-    pub length-read : len < 256 ^ l.length_bytes → length_at l (prefix_bytes l len action id ++ more) ≡ len
+    pub length_read : len < 256 ^ l.length_bytes → length_at l (prefix_bytes l len action id ++ more) ≡ len
     unfolding prefix_bytes length_at
-    length-read h = rw append_assoc (number_read l.length_bytes len (0xcd ∷ l.mark ∷ []) (action ∷ id ∷ more) h)
+    length_read h = rw append_assoc (number_read l.length_bytes len (0xcd ∷ l.mark ∷ []) (action ∷ id ∷ more) h)
 
-    pub action-read : action_at l (prefix_bytes l len action id ++ more) ≡ action
+    pub action_read : action_at l (prefix_bytes l len action id ++ more) ≡ action
     unfolding prefix_bytes action_at
-    action-read =
+    action_read =
         rw append_assoc
         (get_or_at (0xcd ∷ l.mark ∷ bytes_of l.length_bytes len) action (id ∷ more) 0 (prefix_of l - 2)
         (simp length_bytes_lem (omega arith)))
 
-    pub id-read : id_at l (prefix_bytes l len action id ++ more) ≡ id
+    pub id_read : id_at l (prefix_bytes l len action id ++ more) ≡ id
     unfolding prefix_bytes id_at
-    id-read =
+    id_read =
         rw (append_assoc, ← append_assoc (bytes_of l.length_bytes len) (action ∷ []) (id ∷ more))
         (get_or_at (0xcd ∷ l.mark ∷ (bytes_of l.length_bytes len ++ (action ∷ []))) id more 0 (prefix_of l - 1)
         (simp (length-append, length_bytes_lem) (omega arith)))

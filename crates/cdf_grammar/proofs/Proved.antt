@@ -21,8 +21,8 @@ use Rattle.cdf_grammar.specs.Claims.{Accepted, items_of, InEdition, Claims}
 use Rattle.cdf_grammar.proofs.Fits.{Fits}
 use Rattle.cdf_grammar.proofs.Agrees.{fits, conforms, root_agrees}
 use Rattle.cdf_grammar.proofs.Forward.{length_list}
-use Rattle.cdf_grammar.proofs.Ranking.{tree-stands}
-use Rattle.cdf_grammar.proofs.Within.{lists, built, accepted-ends}
+use Rattle.cdf_grammar.proofs.Ranking.{tree_stands}
+use Rattle.cdf_grammar.proofs.Within.{lists, built, accepted_ends}
 use Rattle.cdf_grammar.proofs.Children.{children}
 use Rattle.cdf_grammar.proofs.Heights.{depth_most}
 use Rattle.cdf_grammar.proofs.Person.{person_grammatical}
@@ -55,12 +55,12 @@ module _ (l : Layout) (room : l.limit < 256 ^ l.length_bytes) where
 
   stand : (s : List ℕ) (t : Forest) → Stream l s t → stands_in l s ≡ stands 1 0 t
   unfolding stands_in
-  stand s t p = let w = tree_of s t p in rw (whole s t p) (tree-stands l t w.id w.single w.fit)
+  stand s t p = let w = tree_of s t p in rw (whole s t p) (tree_stands l t w.id w.single w.fit)
 
-  stream-of : (s : List ℕ) → Bytes s → Accepted l s → (t : Forest) × Stream l s t
+  stream_of : (s : List ℕ) → Bytes s → Accepted l s → (t : Forest) × Stream l s t
   unfolding check_of
-  stream-of s b e =
-      let w = built l s b (accepted-ends l true 0 s e) in (
+  stream_of s b e =
+      let w = built l s b (accepted_ends l true 0 s e) in (
         w.0,
         record {
           tree = record { root = (root_agrees w.0).1 (w.1, w.2, w.3); conforms = conforms l w.0 w.4 };
@@ -96,7 +96,7 @@ of e =
     let l = layout_of e in
     let room = roomy e in
     record {
-      exactly = λ s b. (stream-of l room s b, λ w. ap (λ (a : Verdict). a.number) (counted l room s w.0 w.1));
+      exactly = λ s b. (stream_of l room s b, λ w. ap (λ (a : Verdict). a.number) (counted l room s w.0 w.1));
       counted = counted l room;
       unique = once l room;
       listed = λ s t p. ap (λ (x : Listing). x.units) (whole l room s t p);
@@ -104,8 +104,8 @@ of e =
       shallow = λ s t p. let w = tree_of l room s t p in depth_most l t w.id w.single w.fit;
       one_kind = λ s t p. one_kind t p.tree.conforms;
       same = λ s r b c x y e.
-          let t = stream-of l room s b x in
-          let u = stream-of l room r c y in
+          let t = stream_of l room s b x in
+          let u = stream_of l room r c y in
           same_bytes l room s r t.0 u.0 t.1 u.1 e;
       children = children l room;
     }

@@ -15,7 +15,7 @@ use Rattle.cdf_unit_list.specs.declared.Unit.{Unit}
 use Rattle.cdf_unit_list.specs.declared.Ranked.{Ranked}
 use Rattle.cdf_unit_list.proofs.Nested.{Nested}
 use Rattle.cdf_unit_list.proofs.StatesListed.{open_of, Before, before_later, new_inside}
-use Rattle.cdf_unit_list.proofs.Ranks.{Counted, inner-counted, rank_due}
+use Rattle.cdf_unit_list.proofs.Ranks.{Counted, inner_counted, rank_due}
 use Rattle.cdf_grammar.specs.Trees.{Forest, none, tree, ids}
 use Rattle.cdf_grammar.specs.Encoding.{encode, list}
 use Rattle.cdf_grammar.specs.Ranking.{stands}
@@ -106,11 +106,11 @@ module _ (l : Layout) where
       (a : Around us o ws v.start ks r) where
     listed : v.start < o.end → Counted (v ∷ us) (map (open_of []) (o ∷ ws)) ks (suc r)
     listed h =
-        inner-counted v us o ws (a.opened v.start (omega arith) h) [] o.end a.nested.2 ks r a.counted
+        inner_counted v us o ws (a.opened v.start (omega arith) h) [] o.end a.nested.2 ks r a.counted
 
-    nests-leaf : at ≤ v.end → v.end ≤ o.end → Nests v at none us o ws ks r
+    nests_leaf : at ≤ v.end → v.end ≤ o.end → Nests v at none us o ws ks r
     unfolding list stands ranked
-    nests-leaf high room = record {
+    nests_leaf high room = record {
       same = refl;
       before = (omega arith, before_later us v.start v.end (omega arith) a.before);
       counted = listed (omega arith);
@@ -127,7 +127,7 @@ module _ (l : Layout) where
             (enter v at low (omega arith) us (o ∷ ws) (λ p from to. a.opened p from (omega arith)) a.before
             (a.nested.0, room, a.nested.2) ks r (listed (omega arith)) e) in
             record { same = i.same; before = rw end at i.around.before; counted = i.around.counted.1 }
-        go false e = subst (λ f. Nests v at f us o ws ks r) (sym (leaf e)) (nests-leaf (omega arith) room)
+        go false e = subst (λ f. Nests v at f us o ws ks r) (sym (leaf e)) (nests_leaf (omega arith) room)
 
   module _ (id action : ℕ) (text : List ℕ) (inner rest : Forest) (us : List Unit) (o : Unit) (ws : List Unit) (pos : ℕ) (ks : List ℕ) (r : ℕ)
       (room : pos + length (encode l (tree id action text inner rest)) ≤ o.end) (a : Around us o ws pos ks r) where
@@ -162,9 +162,9 @@ module _ (l : Layout) where
           around = rw (list_tree, reverse_aux-append, stop) later.around;
         }
 
-  over-tree : (id action : ℕ) (text : List ℕ) (inner rest : Forest) → Passes l id action text inner → Stands inner → Stands rest →
+  over_tree : (id action : ℕ) (text : List ℕ) (inner rest : Forest) → Passes l id action text inner → Stands inner → Stands rest →
       Stands (tree id action text inner rest)
-  over-tree id action text inner rest p over-inner over-rest us o ws pos ks r room a =
+  over_tree id action text inner rest p over-inner over-rest us o ws pos ks r room a =
       let v = unit_here l pos id action text inner in
       let long = length_tree l id action text inner rest in
       let n = nests v (inner_at l pos text) (omega arith) us o ws ks r a inner over-inner (omega arith) (omega arith) p.leaf in
@@ -175,13 +175,13 @@ module _ (l : Layout) where
   over : (f : Forest) → Fits l f → Stands f
   over none fit = over_none
   over (tree id action text inner rest) fit =
-      over-tree id action text inner rest fit.0 (over inner fit.1) (over rest fit.2)
+      over_tree id action text inner rest fit.0 (over inner fit.1) (over rest fit.2)
 
   -- The root stands in none.
   module _ (id action : ℕ) (text : List ℕ) (inner : Forest) (p : Passes l id action text inner) (fit : Fits l inner) where
-    root-inner : map stand (ranked (unit_here l 0 id action text inner ∷ []) (list l (inner_at l 0 text) inner)) ≡ stands 2 0 inner
+    root_inner : map stand (ranked (unit_here l 0 id action text inner ∷ []) (list l (inner_at l 0 text) inner)) ≡ stands 2 0 inner
     unfolding list stands ranked open_at parents_that
-    root-inner = go (opens id) refl
+    root_inner = go (opens id) refl
       where
         go : (b : Bool) → opens id ≡ b →
             map stand (ranked (unit_here l 0 id action text inner ∷ []) (list l (inner_at l 0 text) inner)) ≡ stands 2 0 inner
@@ -194,10 +194,10 @@ module _ (l : Layout) where
 
     root_stands : map stand (ranked [] (list l 0 (tree id action text inner none))) ≡ stands 1 0 (tree id action text inner none)
     unfolding stands ranked standing open_at parents_that rank_in
-    root_stands = rw (list_one l 0 id action text inner, append-nil) (ap (λ x. (1, 0) ∷ x) root-inner)
+    root_stands = rw (list_one l 0 id action text inner, append-nil) (ap (λ x. (1, 0) ∷ x) root_inner)
 
-  pub tree-stands : (t : Forest) (id : ℕ) → ids t ≡ id ∷ [] → Fits l t → map stand (ranked [] (list l 0 t)) ≡ stands 1 0 t
+  pub tree_stands : (t : Forest) (id : ℕ) → ids t ≡ id ∷ [] → Fits l t → map stand (ranked [] (list l 0 t)) ≡ stands 1 0 t
   unfolding ids
-  tree-stands none id e fit = clash cc
-  tree-stands (tree i action text inner none) id e fit = root_stands i action text inner fit.0 fit.1
-  tree-stands (tree i action text inner (tree j a s f x)) id e fit = clash cc
+  tree_stands none id e fit = clash cc
+  tree_stands (tree i action text inner none) id e fit = root_stands i action text inner fit.0 fit.1
+  tree_stands (tree i action text inner (tree j a s f x)) id e fit = clash cc

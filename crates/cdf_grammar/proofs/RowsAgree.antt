@@ -16,8 +16,8 @@ use Rattle.cdf_unit_table.proofs.Rows.{admit_below, admit_unknown, from_parents,
 use Rattle.cdf_grammar.specs.Content.{Content, empty, Spells}
 use Rattle.cdf_grammar.specs.Published.{production_of}
 use Rattle.cdf_grammar.proofs.Fits.{through}
-use Rattle.cdf_unit_table.proofs.Tables.{up_to, same-below, same}
-use Rattle.cdf_grammar.proofs.Spelling.{Allows, left_after, may_end, within, allows_none, allows_first, after-beyond}
+use Rattle.cdf_unit_table.proofs.Tables.{up_to, same_below, same}
+use Rattle.cdf_grammar.proofs.Spelling.{Allows, left_after, may_end, within, allows_none, allows_first, after_beyond}
 use Rattle.cdf_grammar.proofs.KindsAgree.{agreed}
 
 -- What may come in a unit that has had nothing,
@@ -75,7 +75,7 @@ by_rows state = (complete state, true, up_to (λ c. expects (admit state c)) ids
 
 outlook : (h : ℕ) → h < states_end → by_content h ≡ by_rows h
 unfolding by_content by_rows expects expectations unit production_of may_end left_after within complete admit
-outlook = same-below by_content by_rows states_end refl
+outlook = same_below by_content by_rows states_end refl
 
 ended_agrees : (h : ℕ) → h < states_end → may_end (expects h) ≡ complete h
 unfolding by_content by_rows
@@ -89,7 +89,7 @@ after_agrees h k =
     beyond : (c : ℕ) → ids_end ≤ c → left_after c (expects h) ≡ expects (admit h c)
     beyond c b =
         rw (admit_unknown h c b)
-        (after-beyond ids_end c b (expects h) (subst T (sym (ap (λ (o : Outlook). o.1) (outlook h k))) tt))
+        (after_beyond ids_end c b (expects h) (subst T (sym (ap (λ (o : Outlook). o.1) (outlook h k))) tt))
 
 agrees : (cs : List ℕ) (h : ℕ) → h < states_end → Allows (expects h) cs ↔ (complete (through h cs) ≡ true)
 unfolding through

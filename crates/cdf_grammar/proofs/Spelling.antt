@@ -48,16 +48,16 @@ abbrev Cut : (List ℕ → Type 0) → (List ℕ → Type 0) → List ℕ → Ty
 Cut P Q ids = (front : List ℕ) × (rest : List ℕ) × (ids ≡ front ++ rest) × P front × Q rest
 
 module _ (P Q : List ℕ → Type 0) where
-  cut-none : Cut P Q [] ↔ (P [] × Q [])
-  cut-none = (λ c. go c.0 c.1 c.2 c.3 c.4, λ h. ([], [], refl, h.0, h.1))
+  cut_none : Cut P Q [] ↔ (P [] × Q [])
+  cut_none = (λ c. go c.0 c.1 c.2 c.3 c.4, λ h. ([], [], refl, h.0, h.1))
     where
       go : (front rest : List ℕ) → [] ≡ front ++ rest → P front → Q rest → P [] × Q []
       go [] rest e p q = (p, subst Q (sym e) q)
       go (x ∷ front) rest e p q = absurd (nil≢cons e)
 
   -- The first id is in the first part, unless that is empty.
-  cut-first : (id : ℕ) (ids : List ℕ) → Cut P Q (id ∷ ids) ↔ (Cut (λ cs. P (id ∷ cs)) Q ids ⊎ (P [] × Q (id ∷ ids)))
-  cut-first id ids = (λ c. go c.0 c.1 c.2 c.3 c.4, back)
+  cut_first : (id : ℕ) (ids : List ℕ) → Cut P Q (id ∷ ids) ↔ (Cut (λ cs. P (id ∷ cs)) Q ids ⊎ (P [] × Q (id ∷ ids)))
+  cut_first id ids = (λ c. go c.0 c.1 c.2 c.3 c.4, back)
     where
       go : (front rest : List ℕ) → id ∷ ids ≡ front ++ rest → P front → Q rest →
           Cut (λ cs. P (id ∷ cs)) Q ids ⊎ (P [] × Q (id ∷ ids))
@@ -81,32 +81,32 @@ unfolding nullable
 spells_none empty = (λ e. refl, λ e. refl)
 spells_none (one id) = (λ e. absurd (nil≢cons e), λ e. absurd (false≢true e))
 spells_none (both a b) =
-    Iff.trans (cut-none (Spells a) (Spells b)) (and_iff (nullable a) (nullable b) (spells_none a) (spells_none b))
+    Iff.trans (cut_none (Spells a) (Spells b)) (and_iff (nullable a) (nullable b) (spells_none a) (spells_none b))
 spells_none (either a b) = or_iff (nullable a) (nullable b) (spells_none a) (spells_none b)
 spells_none (many a) = (λ p. refl, λ e. end refl)
 
 module _ (ids : List ℕ) where
-  allows-choice : (x y : Option Content) {A B : Type 0} → A ↔ Allows x ids → B ↔ Allows y ids → (A ⊎ B) ↔ Allows (choice x y) ids
+  allows_choice : (x y : Option Content) {A B : Type 0} → A ↔ Allows x ids → B ↔ Allows y ids → (A ⊎ B) ↔ Allows (choice x y) ids
   unfolding choice
-  allows-choice none y f g = (elim [ inl a ↦ absurd (f.0 a) | inr b ↦ g.0 b ], λ h. inr (g.1 h))
-  allows-choice (some a) none f g = (elim [ inl a ↦ f.0 a | inr b ↦ absurd (g.0 b) ], λ h. inl (f.1 h))
-  allows-choice (some a) (some b) f g =
+  allows_choice none y f g = (elim [ inl a ↦ absurd (f.0 a) | inr b ↦ g.0 b ], λ h. inr (g.1 h))
+  allows_choice (some a) none f g = (elim [ inl a ↦ f.0 a | inr b ↦ absurd (g.0 b) ], λ h. inl (f.1 h))
+  allows_choice (some a) (some b) f g =
       (elim [ inl a ↦ inl (f.0 a) | inr b ↦ inr (g.0 b) ], elim [ inl a ↦ inl (f.1 a) | inr b ↦ inr (g.1 b) ])
 
-  allows-followed : (x : Option Content) (b : Content) (P : List ℕ → Type 0) → ((cs : List ℕ) → P cs ↔ Allows x cs) →
+  allows_followed : (x : Option Content) (b : Content) (P : List ℕ → Type 0) → ((cs : List ℕ) → P cs ↔ Allows x cs) →
       Cut P (Spells b) ids ↔ Allows (followed x b) ids
   unfolding followed
-  allows-followed none b P f = (λ c. (f c.0).0 c.3, λ h. absurd h)
-  allows-followed (some a) b P f =
+  allows_followed none b P f = (λ c. (f c.0).0 c.3, λ h. absurd h)
+  allows_followed (some a) b P f =
       (λ c. (c.0, c.1, c.2, (f c.0).0 c.3, c.4), λ c. (c.0, c.1, c.2, (f c.0).1 c.3, c.4))
 
-  allows-if : (t : Bool) (y : Option Content) {A B : Type 0} → A ↔ (t ≡ true) → B ↔ Allows y ids → (A × B) ↔ Allows (cond t y none) ids
-  allows-if true y f g = (λ h. g.0 h.1, λ e. (f.1 refl, g.1 e))
-  allows-if false y f g = (λ h. false≢true (f.0 h.0), λ h. absurd h)
+  allows_if : (t : Bool) (y : Option Content) {A B : Type 0} → A ↔ (t ≡ true) → B ↔ Allows y ids → (A × B) ↔ Allows (cond t y none) ids
+  allows_if true y f g = (λ h. g.0 h.1, λ e. (f.1 refl, g.1 e))
+  allows_if false y f g = (λ h. false≢true (f.0 h.0), λ h. absurd h)
 
   -- It is in the first piece that is not empty.
-  pieces-first : (P : List ℕ → Type 0) (id : ℕ) → Pieces P (id ∷ ids) ↔ Cut (λ cs. P (id ∷ cs)) (Pieces P) ids
-  pieces-first P id = (go refl, λ c. piece (id ∷ c.0) c.1 (ap (λ (cs : List ℕ). id ∷ cs) c.2) c.3 c.4)
+  pieces_first : (P : List ℕ → Type 0) (id : ℕ) → Pieces P (id ∷ ids) ↔ Cut (λ cs. P (id ∷ cs)) (Pieces P) ids
+  pieces_first P id = (go refl, λ c. piece (id ∷ c.0) c.1 (ap (λ (cs : List ℕ). id ∷ cs) c.2) c.3 c.4)
     where
       First : Type 0
       First = Cut (λ cs. P (id ∷ cs)) (Pieces P) ids
@@ -114,27 +114,27 @@ module _ (ids : List ℕ) where
       go : {js : List ℕ} → js ≡ id ∷ ids → Pieces P js → First
       go e (end z) = absurd (nil≢cons (sym z ∙ e))
       go e (piece front rest s p ps) =
-          elim ((cut-first P (λ cs. Pieces P cs × (cs ≡ id ∷ ids → First)) id ids).0 (front, rest, sym e ∙ s, p, (ps, λ q. go q ps)))
+          elim ((cut_first P (λ cs. Pieces P cs × (cs ≡ id ∷ ids → First)) id ids).0 (front, rest, sym e ∙ s, p, (ps, λ q. go q ps)))
           [ inl c ↦ (c.0, c.1, c.2, c.3, c.4.0) | inr h ↦ h.1.1 refl ]
 
 pub spells_first : (c : Content) (id : ℕ) (ids : List ℕ) → Spells c (id ∷ ids) ↔ Allows (derive id c) ids
 unfolding derive
 spells_first empty id ids = (λ e. cons≢nil e, λ h. absurd h)
-spells_first (one x) id ids = allows-one (eqb x id) refl
+spells_first (one x) id ids = allows_one (eqb x id) refl
   where
-    allows-one : (b : Bool) → eqb x id ≡ b → (id ∷ ids ≡ x ∷ []) ↔ Allows (cond b (some empty) none) ids
-    allows-one true e = (λ q. cc, λ q. cc (eqb-true x id e))
-    allows-one false e = (λ q. eqb-false x id e (cc), λ h. absurd h)
+    allows_one : (b : Bool) → eqb x id ≡ b → (id ∷ ids ≡ x ∷ []) ↔ Allows (cond b (some empty) none) ids
+    allows_one true e = (λ q. cc, λ q. cc (eqb-true x id e))
+    allows_one false e = (λ q. eqb-false x id e (cc), λ h. absurd h)
 spells_first (both a b) id ids =
-    Iff.trans (cut-first (Spells a) (Spells b) id ids)
-    (allows-choice ids (followed (derive id a) b) (cond (nullable a) (derive id b) none)
-    (allows-followed ids (derive id a) b (λ cs. Spells a (id ∷ cs)) (λ cs. spells_first a id cs))
-    (allows-if ids (nullable a) (derive id b) (spells_none a) (spells_first b id ids)))
+    Iff.trans (cut_first (Spells a) (Spells b) id ids)
+    (allows_choice ids (followed (derive id a) b) (cond (nullable a) (derive id b) none)
+    (allows_followed ids (derive id a) b (λ cs. Spells a (id ∷ cs)) (λ cs. spells_first a id cs))
+    (allows_if ids (nullable a) (derive id b) (spells_none a) (spells_first b id ids)))
 spells_first (either a b) id ids =
-    allows-choice ids (derive id a) (derive id b) (spells_first a id ids) (spells_first b id ids)
+    allows_choice ids (derive id a) (derive id b) (spells_first a id ids) (spells_first b id ids)
 spells_first (many a) id ids =
-    Iff.trans (pieces-first ids (Spells a) id)
-    (allows-followed ids (derive id a) (many a) (λ cs. Spells a (id ∷ cs)) (λ cs. spells_first a id cs))
+    Iff.trans (pieces_first ids (Spells a) id)
+    (allows_followed ids (derive id a) (many a) (λ cs. Spells a (id ∷ cs)) (λ cs. spells_first a id cs))
 
 -- The same of what may still come.
 unfoldable pub may_end : Option Content → Bool
@@ -171,21 +171,21 @@ within n (some c) = names_below n c
 
 -- spells no other first.
 module _ (n id : ℕ) (h : n ≤ id) where
-  derive-beyond : (c : Content) → T (names_below n c) → derive id c ≡ none
+  derive_beyond : (c : Content) → T (names_below n c) → derive id c ≡ none
   unfolding derive names_below
-  derive-beyond empty t = refl
-  derive-beyond (one x) t = rw (ne_eqb x id (λ e. absurd (omega (arith, ltb→lt x n t))))
-  derive-beyond (both a b) t =
-      rw (derive-beyond a (and_left (names_below n a) _ t), derive-beyond b (and_right (names_below n a) _ t)) (go (nullable a))
+  derive_beyond empty t = refl
+  derive_beyond (one x) t = rw (ne_eqb x id (λ e. absurd (omega (arith, ltb→lt x n t))))
+  derive_beyond (both a b) t =
+      rw (derive_beyond a (and_left (names_below n a) _ t), derive_beyond b (and_right (names_below n a) _ t)) (go (nullable a))
     where
       go : (x : Bool) → ◌≡◌ {A = Option Content} (cond x none none) none
       go true = refl
       go false = refl
-  derive-beyond (either a b) t =
-      rw (derive-beyond a (and_left (names_below n a) _ t), derive-beyond b (and_right (names_below n a) _ t))
-  derive-beyond (many a) t = rw (derive-beyond a t)
+  derive_beyond (either a b) t =
+      rw (derive_beyond a (and_left (names_below n a) _ t), derive_beyond b (and_right (names_below n a) _ t))
+  derive_beyond (many a) t = rw (derive_beyond a t)
 
-  pub after-beyond : (x : Option Content) → T (within n x) → left_after id x ≡ none
+  pub after_beyond : (x : Option Content) → T (within n x) → left_after id x ≡ none
   unfolding left_after within
-  after-beyond none t = refl
-  after-beyond (some c) t = derive-beyond c t
+  after_beyond none t = refl
+  after_beyond (some c) t = derive_beyond c t

@@ -11,7 +11,7 @@ use Rattle.cdf_unit_table.specs.States.{opens}
 use Rattle.cdf_grammar.specs.Trees.{Forest, none, tree}
 use Rattle.cdf_grammar.specs.Encoding.{prefix_bytes, unit_bytes, encode}
 use Rattle.cdf_grammar.proofs.Fits.{own_of, Passes, Fits}
-use Rattle.cdf_grammar.proofs.Prefixes.{length-prefix, length-read, action-read, id-read}
+use Rattle.cdf_grammar.proofs.Prefixes.{length_prefix, length_read, action_read, id_read}
 use Rattle.cdf_grammar.proofs.Built.{length_unit, length_tree}
 
 -- Where the first parts are equally long, both parts are equal.
@@ -27,10 +27,10 @@ split a b c d same e =
 prefix_same : (l : Layout) (m n a b i j : ℕ) (x y : List ℕ) → m < 256 ^ l.length_bytes → n < 256 ^ l.length_bytes →
     prefix_bytes l m a i ++ x ≡ prefix_bytes l n b j ++ y → (m ≡ n) × (a ≡ b) × (i ≡ j) × (x ≡ y)
 prefix_same l m n a b i j x y hm hn e =
-    let w = split (prefix_bytes l m a i) x (prefix_bytes l n b j) y (cc (length-prefix l m a i, length-prefix l n b j)) e in (
-      cc (length-read l m a i x hm, length-read l n b j y hn),
-      cc (action-read l m a i x, action-read l n b j y),
-      cc (id-read l m a i x, id-read l n b j y),
+    let w = split (prefix_bytes l m a i) x (prefix_bytes l n b j) y (cc (length_prefix l m a i, length_prefix l n b j)) e in (
+      cc (length_read l m a i x hm, length_read l n b j y hn),
+      cc (action_read l m a i x, action_read l n b j y),
+      cc (id_read l m a i x, id_read l n b j y),
       w.1,
     )
 

@@ -21,12 +21,12 @@ use Rattle.cdf_unit_table.proofs.Rows.{admits_nested, admits_root, root_kind_lem
 use Rattle.cdf_unit_list.proofs.Agreement.{follows}
 use Rattle.cdf_unit_list.proofs.Entering.{unit_from}
 use Rattle.cdf_unit_list.proofs.Numbered.{numbered}
-use Rattle.cdf_unit_list.proofs.Stepping.{steps_on, faults, enters, refused-never}
+use Rattle.cdf_unit_list.proofs.Stepping.{steps_on, faults, enters, refused_never}
 use Rattle.cdf_grammar.specs.Trees.{Forest, none, tree, ids}
 use Rattle.cdf_grammar.specs.Encoding.{Bytes, Stream, unit_bytes, encode, list}
 use Rattle.cdf_grammar.proofs.Fits.{Fits}
 use Rattle.cdf_grammar.proofs.Built.{encode_tree, encode_one, size_of, length_unit, unit_judged}
-use Rattle.cdf_grammar.proofs.Prefixes.{id-read}
+use Rattle.cdf_grammar.proofs.Prefixes.{id_read}
 use Rattle.cdf_grammar.proofs.Unique.{unit_parts}
 use Rattle.cdf_grammar.proofs.Agrees.{root_agrees}
 use Rattle.cdf_grammar.proofs.Written.{UnitIs}
@@ -34,14 +34,14 @@ use Rattle.cdf_grammar.proofs.Forward.{front_lists}
 use Rattle.cdf_grammar.proofs.Backward.{steps_after, front_ends}
 
 module _ (l : Layout) (root : Bool) (state : ℕ) (s : List ℕ) where
-  by-steps : list_by l s (judge_of l root state s) ≡ steps_from (suc (length s)) l s (entered 0 (λ next. []) (judge_of l root state s)) []
+  by_steps : list_by l s (judge_of l root state s) ≡ steps_from (suc (length s)) l s (entered 0 (λ next. []) (judge_of l root state s)) []
   unfolding steps
-  by-steps = rw (← follows l s root state)
+  by_steps = rw (← follows l s root state)
 
   -- An answer of 0 is a list that ended: a fault has another number.
-  pub accepted-ends : (answer (list_by l s (judge_of l root state s))).number ≡ 0 → (list_by l s (judge_of l root state s)).end ≡ ended
+  pub accepted_ends : (answer (list_by l s (judge_of l root state s))).number ≡ 0 → (list_by l s (judge_of l root state s)).end ≡ ended
   unfolding answer
-  accepted-ends e = go (list_by l s (judge_of l root state s)).end refl e
+  accepted_ends e = go (list_by l s (judge_of l root state s)).end refl e
     where
       n : ℕ
       n = length (list_by l s (judge_of l root state s)).units
@@ -65,15 +65,15 @@ module _ (l : Layout) (root : Bool) (state : ℕ) (s : List ℕ) where
   front q = go (judge_of l root state s) refl
     where
       go : (j : Judged) → judge_of l root state s ≡ j → Front
-      go (Fault k at) e = absurd (refused-never l s (suc (length s)) k (0 + at) [] (rw (by-steps, e, faults) at q))
+      go (Fault k at) e = absurd (refused_never l s (suc (length s)) k (0 + at) [] (rw (by_steps, e, faults) at q))
       go (Found id action own len next) e =
           record { id = id; action = action; own = own; len = len; next = next; is = e }
 
   -- Its bytes are one that fits, written.
-  front-unit : Bytes s → (list_by l s (judge_of l root state s)).end ≡ ended → (f : Front) → UnitIs l f.id (take f.len s)
-  front-unit b q f =
+  front_unit : Bytes s → (list_by l s (judge_of l root state s)).end ≡ ended → (f : Front) → UnitIs l f.id (take f.len s)
+  front_unit b q f =
       let u = unit_from 0 f.id f.action f.own f.len in
-      let inside : (steps_after l s u [] (length s) (u ∷ [])).end ≡ ended = rw (by-steps, f.is, enters, steps_on) at q in
+      let inside : (steps_after l s u [] (length s) (u ∷ [])).end ≡ ended = rw (by_steps, f.is, enters, steps_on) at q in
       front_ends l s b (placed l root state s f.is) inside
 
 -- The units and the length of a tree that fits, where it is admitted. As the root (`true`) it has to be all the bytes, within the
@@ -86,7 +86,7 @@ front_listed : {l : Layout} {id action : ℕ} {text : List ℕ} {inner : Forest}
 front_listed {l} {id} fit small root state some s more here alone =
     let next = admits root state id in
     let judged = ap (judge_of l root state) here ∙ unit_judged fit.0 small root state next refl some more alone in (
-      rw (by-steps l root state s, judged) (front_lists fit.0 fit.1 small next s more here),
+      rw (by_steps l root state s, judged) (front_lists fit.0 fit.1 small next s more here),
       sym (placed l root state s judged).is_length,
     )
 
@@ -140,14 +140,14 @@ built l s b q =
     let p = placed l true 0 s f.is in
     let all : take f.len s ≡ s = rw (p.whole refl, take-length) in
     let root = root_kind_lem 0 f.id (λ z. p.some (sym p.may ∙ z)) in
-    root_encoded l s f.id root (omega (arith, p.whole refl, p.short refl)) (rw all at (front-unit l true 0 s b q f))
+    root_encoded l s f.id root (omega (arith, p.whole refl, p.short refl)) (rw all at (front_unit l true 0 s b q f))
 
 -- A stream is a tree whose root has the id that its prefix says.
 pub root_read : (l : Layout) (g : List ℕ) (id action : ℕ) (text : List ℕ) (inner : Forest) →
     Stream l g (tree id action text inner none) → id_at l g ≡ id
 root_read l g id action text inner s =
     ap (id_at l) (sym s.bytes ∙ encode_tree l id action text inner none ∙ unit_parts l id action text (encode l inner) (encode l none))
-    ∙ id-read l _ action id _
+    ∙ id_read l _ action id _
 
 read_root : (l : Layout) (g : List ℕ) (id action : ℕ) (text : List ℕ) (inner : Forest) → Stream l g (tree id action text inner none) →
     Stream l g (tree (id_at l g) action text inner none)
@@ -170,14 +170,14 @@ pub record Stands (l : Layout) (state : ℕ) (s : List ℕ) : Type 0 where
 pub stands : (l : Layout) (state : ℕ) (s : List ℕ) → (check_in l state s).number ≡ 0 → Stands l state s
 unfolding check_in
 stands l state s e =
-    let q = accepted-ends l false state s e in
+    let q = accepted_ends l false state s e in
     let f = front l false state s q in
     let p = placed l false state s f.is in
     record {
       id = f.id;
       may = λ z. p.some (sym p.may ∙ admits_nested state f.id ∙ z);
       high = omega arith;
-      unit = λ b. rw p.is_length at (front-unit l false state s b q f);
+      unit = λ b. rw p.is_length at (front_unit l false state s b q f);
     }
 
 pub stands_tree : {l : Layout} {id action : ℕ} {text : List ℕ} {inner : Forest} → Fits l (tree id action text inner none) →

@@ -35,8 +35,8 @@ put_length {l = l} {xs = xs} {at = at} p = rw p.is (length-sets l at xs)
 
 -- One more byte of some.
 module _ (bs : List ℕ) (i : ℕ) (less : i < length bs) {l m : List ℕ} {at behind : ℕ} (p : Put l at (take i bs) m behind) where
-  pub put-more : {r : List ℕ} {end : ℕ} → Put m behind (get_or bs i 0 ∷ []) r end → Put l at (take (i + 1) bs) r end
-  put-more q = rw (add-one, take-suc bs i 0) (put_both p q)
+  pub put_more : {r : List ℕ} {end : ℕ} → Put m behind (get_or bs i 0 ∷ []) r end → Put l at (take (i + 1) bs) r end
+  put_more q = rw (add-one, take-suc bs i 0) (put_both p q)
 
-  pub put-room : {b : ℕ} → Room at bs → Room behind (b ∷ [])
-  put-room h = record { held = omega (arith, length-take-le i bs (omega arith)) }
+  pub put_room : {b : ℕ} → Room at bs → Room behind (b ∷ [])
+  put_room h = record { held = omega (arith, length-take-le i bs (omega arith)) }

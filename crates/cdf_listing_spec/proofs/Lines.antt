@@ -32,16 +32,16 @@ text_on (u ∷ before) us =
 
 module _ (l : Layout) (s : List ℕ) where
   -- All lines are those before and those that come.
-  pub lines-on : (before : List Unit) (a : Reply) (g : Going l s before a) →
+  pub lines_on : (before : List Unit) (a : Reply) (g : Going l s before a) →
       listed_lines l s ≡ text_of before ++ lines_of (depths before g.units) g.units
   unfolding listed_lines
-  lines-on before a g = rw g.all (text_on before g.units)
+  lines_on before a g = rw g.all (text_on before g.units)
 
-  pub lines-over : (before : List Unit) (a : Reply) → Over l s before a → listed_lines l s ≡ text_of before
+  pub lines_over : (before : List Unit) (a : Reply) → Over l s before a → listed_lines l s ≡ text_of before
   unfolding listed_lines lines_of depths
-  lines-over before a o = rw o.all (text_on before [] ∙ append-nil (text_of before))
+  lines_over before a o = rw o.all (text_on before [] ∙ append-nil (text_of before))
 
   -- The line of a unit that was handed out comes next.
-  pub text-next : (before : List Unit) (a : Reply) → Turn l s before a → text_of (a.handed.unit ∷ before) ≡ text_of before ++ line_in a
+  pub text_next : (before : List Unit) (a : Reply) → Turn l s before a → text_of (a.handed.unit ∷ before) ≡ text_of before ++ line_in a
   unfolding text_of standing
-  text-next before a t = rw t.ranked
+  text_next before a t = rw t.ranked

@@ -12,7 +12,7 @@ use Rattle.cdf_unit_list.specs.Units.{End, unfinished, ended, fault, listing, de
 use Rattle.cdf_unit_list.specs.Check.{answer_of}
 use Rattle.cdf_unit_list.specs.declared.Unit.{Unit}
 use Rattle.cdf_unit_list.proofs.Proved.{proved}
-use Rattle.cdf_reader_runs.proofs.Readings.{check-is}
+use Rattle.cdf_reader_runs.proofs.Readings.{check_is}
 use Rattle.cdf_listing_spec.specs.Text.{number, columns, line_of, lines_of, listed_lines, ok_line, refused_line, listing_text}
 use Rattle.cdf_listing_spec.specs.Claims.{text_room, room_by}
 use Rattle.cdf_listing_spec.proofs.Digits.{few_digits, below_power}
@@ -20,9 +20,9 @@ use Rattle.cdf_listing_spec.proofs.Within.{Fair, EachFair, OfEnd, within, limite
 
 module _ (n : ℕ) (small : n < 10 ^ 5) where
   -- At most 19 bytes: two numbers of five digits, one of two and two of one, four spaces and the line feed.
-  line-short : (depth : ℕ) (u : Unit) → depth ≤ 5 → Fair n u → length (line_of depth u) ≤ 19
+  line_short : (depth : ℕ) (u : Unit) → depth ≤ 5 → Fair n u → length (line_of depth u) ≤ 19
   unfolding line_of columns number
-  line-short depth u deep f =
+  line_short depth u deep f =
       let start = few_digits 4 u.start (omega arith) in
       let level = few_digits 0 depth (omega arith) in
       let id = few_digits 1 u.id (omega arith) in
@@ -30,13 +30,13 @@ module _ (n : ℕ) (small : n < 10 ^ 5) where
       let size = few_digits 4 (u.end - u.start) (omega arith) in
       simp length-append (omega arith)
 
-  lines-short : (ds : List ℕ) (us : List Unit) → ((k : ℕ) → get_or ds k 0 ≤ 5) → EachFair n us → length (lines_of ds us) ≤ 19 * length us
+  lines_short : (ds : List ℕ) (us : List Unit) → ((k : ℕ) → get_or ds k 0 ≤ 5) → EachFair n us → length (lines_of ds us) ≤ 19 * length us
   unfolding lines_of
-  lines-short [] us deep fair = omega arith
-  lines-short (d ∷ ds) [] deep fair = omega arith
-  lines-short (d ∷ ds) (u ∷ us) deep fair =
-      let one = line-short d u (deep 0) fair.0 in
-      let rest = lines-short ds us (λ k. deep (suc k)) fair.1 in
+  lines_short [] us deep fair = omega arith
+  lines_short (d ∷ ds) [] deep fair = omega arith
+  lines_short (d ∷ ds) (u ∷ us) deep fair =
+      let one = line_short d u (deep 0) fair.0 in
+      let rest = lines_short ds us (λ k. deep (suc k)) fair.1 in
       simp length-append (omega arith)
 
 pub ok_short : (k n : ℕ) → n < 10 ^ suc k → length (ok_line n) ≤ 5 + k
@@ -57,7 +57,7 @@ lines_by_units s =
     let l = layout_of First in
     let us = (listing l s).units in
     ⊎_elim (λ none. rw none (omega arith))
-    (λ some. lines-short (length s) (omega arith) (depths [] us) us (proved.shallow l s) (within l s).0)
+    (λ some. lines_short (length s) (omega arith) (depths [] us) us (proved.shallow l s) (within l s).0)
     (limited l s)
 
 -- Of any bytes: at most 10,922 units.
@@ -71,15 +71,15 @@ listed_short s = omega (arith, lines_by_units s, units_few s)
 
 module _ (l : Layout) (s : List ℕ) where
   -- The text of an accepted stream,
-  pub ok-text : (listing l s).end ≡ ended → listing_text l s ≡ listed_lines l s ++ ok_line (length (listing l s).units)
+  pub ok_text : (listing l s).end ≡ ended → listing_text l s ≡ listed_lines l s ++ ok_line (length (listing l s).units)
   unfolding listing_text answer_of
-  ok-text e = rw (check-is l s, e)
+  ok_text e = rw (check_is l s, e)
 
   -- and of any other bytes.
-  pub refused-text : (n offset : ℕ) → (listing l s).end ≡ fault n offset → listing_text l s ≡ refused_line n offset
+  pub refused_text : (n offset : ℕ) → (listing l s).end ≡ fault n offset → listing_text l s ≡ refused_line n offset
   unfolding listing_text answer_of
-  refused-text n offset e =
-      let w = proved.numbered l s e in rw (check-is l s, e, ne_eqb n 0 (λ z. omega arith))
+  refused_text n offset e =
+      let w = proved.numbered l s e in rw (check_is l s, e, ne_eqb n 0 (λ z. omega arith))
 
 -- Any text fits where lines for all bytes do, and a refusal whose offset has as many digits as there are bytes.
 text_within : (s : List ℕ) (room : ℕ) → room_by (length s) ≤ room → 16 + length s ≤ room → length (listing_text (layout_of First) s) ≤ room
@@ -89,12 +89,12 @@ text_within s room lines line = go (listing (layout_of First) s).end refl (withi
     go unfinished q f = absurd (proved.finishes (layout_of First) s q)
     go ended q f =
         let ok = ok_short 4 (length (listing (layout_of First) s).units) (omega (arith, units_few s)) in
-        rw (ok-text (layout_of First) s q)
+        rw (ok_text (layout_of First) s q)
         (simp length-append (omega (arith, ok, lines_by_units s, proved.few (layout_of First) s)))
     go (fault n offset) q f =
         let w = proved.numbered (layout_of First) s q in
         let refusal = refused_short 1 offset n offset (omega arith) (below_power offset) in
-        rw (refused-text (layout_of First) s n offset q) (omega arith)
+        rw (refused_text (layout_of First) s n offset q) (omega arith)
 
 pub short : (s : List ℕ) → length s ≤ 65536 → length (listing_text (layout_of First) s) ≤ text_room
 short s h = text_within s text_room (omega arith) (omega arith)

@@ -24,7 +24,7 @@ use Rattle.cdf_unit_list.specs.Stack.{Closing, incomplete, left, close, Step, do
 use Rattle.cdf_unit_list.specs.declared.Unit.{Unit}
 use Rattle.cdf_unit_list.specs.declared.Open.{Open}
 use Rattle.cdf_unit_list.proofs.Entering.{unit_from}
-use Rattle.cdf_unit_list.proofs.Few.{Further, unit-further}
+use Rattle.cdf_unit_list.proofs.Few.{Further, unit_further}
 use Rattle.cdf_unit_list.proofs.Stepping.{faults}
 use Rattle.cdf_reader_runs.proofs.Steps.{Run, ends, breaks, hands, listed}
 
@@ -69,15 +69,15 @@ OfEnd n ended = record {}
 OfEnd n (fault number at) = at ≤ n
 
 module _ (l : Layout) (s : List ℕ) where
-  starts-opened : (u : Unit) (os : List Open) → u.start ≤ length s → Starts (length s) os → Starts (length s) (opened u os)
+  starts_opened : (u : Unit) (os : List Open) → u.start ≤ length s → Starts (length s) os → Starts (length s) (opened u os)
   unfolding opened
-  starts-opened u os p q = of_cond (Starts (length s)) (opens u.id) _ os (λ e. (p, q)) (λ e. q)
+  starts_opened u os p q = of_cond (Starts (length s)) (opens u.id) _ os (λ e. (p, q)) (λ e. q)
 
-  entered-sound : (pos : ℕ) (around : ℕ → List Open) (root : Bool) (state : ℕ) (t : List ℕ) → length t ≤ length s - pos → pos ≤ length s →
+  entered_sound : (pos : ℕ) (around : ℕ → List Open) (root : Bool) (state : ℕ) (t : List ℕ) → length t ≤ length s - pos → pos ≤ length s →
       ((next : ℕ) → Starts (length s) (around next)) → Sound (length s) (entered pos around (judge_of l root state t))
   unfolding entered
-  entered-sound pos around root state t few h starts =
-      go (judge_of l root state t) refl (unit-further l s pos root state t around few)
+  entered_sound pos around root state t few h starts =
+      go (judge_of l root state t) refl (unit_further l s pos root state t around few)
     where
       go : (j : Judged) → judge_of l root state t ≡ j → Further l s pos (entered pos around j) → Sound (length s) (entered pos around j)
       go (Fault n k) e f = omega (arith, offset_lies l root state t e)
@@ -85,7 +85,7 @@ module _ (l : Layout) (s : List ℕ) where
           let p = placed l root state t e in
           let id = known_id i p.recognised in (
             record { start = omega arith; end = omega arith; id = id; action = small_action i action id p.allowed },
-            starts-opened (unit_from pos i action own len) (around next) h (starts next),
+            starts_opened (unit_from pos i action own len) (around next) h (starts next),
             f.1,
           )
 
@@ -94,35 +94,35 @@ module _ (l : Layout) (s : List ℕ) where
   OfClosing (incomplete at) = at ≤ length s
   OfClosing (left os) = Starts (length s) os
 
-  close-starts : (os : List Open) (pos : ℕ) → Starts (length s) os → OfClosing (close os pos)
+  close_starts : (os : List Open) (pos : ℕ) → Starts (length s) os → OfClosing (close os pos)
   unfolding close
-  close-starts [] pos h = record {}
-  close-starts (o ∷ os) pos h =
-      let rest = close-starts os pos h.1 in
+  close_starts [] pos h = record {}
+  close_starts (o ∷ os) pos h =
+      let rest = close_starts os pos h.1 in
       of_cond OfClosing (eqb o.end pos) _ (left (o ∷ os))
       (λ e. of_cond OfClosing (complete o.state) (close os pos) (incomplete o.start) (λ f. rest) (λ f. h.0)) (λ e. h)
 
-  step-sound : (os : List Open) (pos : ℕ) → Starts (length s) os → pos ≤ length s → Sound (length s) (step l s os pos)
+  step_sound : (os : List Open) (pos : ℕ) → Starts (length s) os → pos ≤ length s → Sound (length s) (step l s os pos)
   unfolding step_by step_in_by with_state
-  step-sound os pos starts h = go (close os pos) (close-starts os pos starts)
+  step_sound os pos starts h = go (close os pos) (close_starts os pos starts)
     where
       go : (c : Closing) → OfClosing c → Sound (length s) (step_in l s pos c)
       go (incomplete at) c = c
       go (left []) c = record {}
       go (left (o ∷ os)) c =
-          entered-sound pos (λ state. with_state o state ∷ os) false o.state (take (o.end - pos) (drop pos s))
+          entered_sound pos (λ state. with_state o state ∷ os) false o.state (take (o.end - pos) (drop pos s))
           (simp (length-take, length-drop) (omega arith)) h (λ state. c)
 
   run_sound : {x : Step} {us : List Unit} {e : End} → Run l s x us e → Sound (length s) x → EachFair (length s) us × OfEnd (length s) e
   run_sound ends h = (record {}, record {})
   run_sound breaks h = (record {}, h)
   run_sound (hands {os = os} {pos = pos} run) h =
-      let rest = run_sound run (step-sound os pos h.1 h.2) in ((h.0, rest.0), rest.1)
+      let rest = run_sound run (step_sound os pos h.1 h.2) in ((h.0, rest.0), rest.1)
 
   pub within : EachFair (length s) (listing l s).units × OfEnd (length s) (listing l s).end
   within =
       run_sound (listed l s)
-      (entered-sound 0 (λ state. []) true 0 s (omega arith) (omega arith) (λ next. record {}))
+      (entered_sound 0 (λ state. []) true 0 s (omega arith) (omega arith) (λ next. record {}))
 
   -- A run from a refusal has no unit.
   refused_none : {x : Step} {us : List Unit} {e : End} → Run l s x us e → (n at : ℕ) → x ≡ refused n at → us ≡ []

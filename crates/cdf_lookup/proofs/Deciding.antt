@@ -26,16 +26,16 @@ roots false g x = refl
 
 -- What a walk over a stream tells: a refusal's offset is the check's,
 module _ (s : List ℕ) (q : Query) (w : Walked) (h : w ≡ walked_of (layout_for s) s q) where
-  offset-is : (w.number ≡ 0 → ⊥) → w.offset ≡ (check_of (layout_for s) s).value
+  offset_is : (w.number ≡ 0 → ⊥) → w.offset ≡ (check_of (layout_for s) s).value
   unfolding walked_of
-  offset-is some =
+  offset_is some =
       ap (λ (x : Walked). x.offset) h
       ∙ rw (ne_eqb (check_of (layout_for s) s).number 0 (λ z. some (ap (λ (x : Walked). x.number) h ∙ z)))
 
   -- and in an accepted one it finds what the definition says.
-  value-is : Bytes s → w.number ≡ 0 → value_in (layout_for s) s q ≡ w.value
+  value_is : Bytes s → w.number ≡ 0 → value_in (layout_for s) s q ≡ w.value
   unfolding walked_of
-  value-is bytes z =
+  value_is bytes z =
       let tree = ((proved.streams (edition_of s)).exactly s bytes).0 (sym (ap (λ (x : Walked). x.number) h) ∙ z) in
       sym (search_finds (edition_of s) s q tree.0 tree.1) ∙ sym (ap (λ (x : Walked). x.value) h)
 
@@ -61,32 +61,32 @@ module _ (s t : List ℕ) (q : Query) (one two : Walked) (f : one ≡ walked_of 
       (roots (is_group (listing l s).units) (is_group (listing m t).units) values))
 
   pub by_first : (one.number ≡ 0 → ⊥) → refusal one.number one.offset ≡ lookup_of l m s t q
-  by_first some = rw (decided, offset-is s q one f some, ne_eqb one.number 0 some)
+  by_first some = rw (decided, offset_is s q one f some, ne_eqb one.number 0 some)
 
   module _ (a : one.number ≡ 0) where
-    pub by-second : (two.number ≡ 0 → ⊥) → refusal two.number two.offset ≡ lookup_of l m s t q
-    by-second some = rw (decided, offset-is t q two g some, eq-eqb one.number 0 a, ne_eqb two.number 0 some)
+    pub by_second : (two.number ≡ 0 → ⊥) → refusal two.number two.offset ≡ lookup_of l m s t q
+    by_second some = rw (decided, offset_is t q two g some, eq-eqb one.number 0 a, ne_eqb two.number 0 some)
 
     module _ (b : two.number ≡ 0) where
-      pub by-roots : (one.group && two.group) ≡ false → refusal 7 0 ≡ lookup_of l m s t q
-      by-roots h = rw (decided, eq-eqb one.number 0 a, eq-eqb two.number 0 b, h)
+      pub by_roots : (one.group && two.group) ≡ false → refusal 7 0 ≡ lookup_of l m s t q
+      by_roots h = rw (decided, eq-eqb one.number 0 a, eq-eqb two.number 0 b, h)
 
       pub by_values : Bytes s → Bytes t → (one.group && two.group) ≡ true →
           lookup_of l m s t q ≡ or_else 1 one.value (or_else 2 two.value (refusal 15 0))
       by_values x y h =
-          rw (decided, eq-eqb one.number 0 a, eq-eqb two.number 0 b, h, value-is s q one f x a, value-is t q two g y b)
+          rw (decided, eq-eqb one.number 0 a, eq-eqb two.number 0 b, h, value_is s q one f x a, value_is t q two g y b)
 
 -- The answer by the two values.
 module _ (v w : Value) (x : Lookup) (e : x ≡ or_else 1 v (or_else 2 w (refusal 15 0))) where
-  pub of-first : (start end : ℕ) → v ≡ At start end → found 1 start end ≡ x
+  pub of_first : (start end : ℕ) → v ≡ At start end → found 1 start end ≡ x
   unfolding or_else
-  of-first start end f = rw (e, f)
+  of_first start end f = rw (e, f)
 
   module _ (f : v ≡ Missing) where
-    pub of-second : (start end : ℕ) → w ≡ At start end → found 2 start end ≡ x
+    pub of_second : (start end : ℕ) → w ≡ At start end → found 2 start end ≡ x
     unfolding or_else
-    of-second start end g = rw (e, f, g)
+    of_second start end g = rw (e, f, g)
 
-    pub of-neither : w ≡ Missing → refusal 15 0 ≡ x
+    pub of_neither : w ≡ Missing → refusal 15 0 ≡ x
     unfolding or_else
-    of-neither g = rw (e, f, g)
+    of_neither g = rw (e, f, g)

@@ -10,11 +10,11 @@ use Rattle.cdf_unit_table.proofs.Bools.{of_cond}
 use Rattle.cdf_lookup_spec.specs.Chosen.{stream_of}
 
 module _ (which : ℕ) (s t : List ℕ) (n : ℕ) (h : n ≤ length (stream_of which s t)) where
-  pub in-second : which ≡ 2 → n ≤ length t
-  in-second e = rw (eq-eqb which 2 e) at h
+  pub in_second : which ≡ 2 → n ≤ length t
+  in_second e = rw (eq-eqb which 2 e) at h
 
-  pub in-first : (which ≡ 2 → ⊥) → n ≤ length s
-  in-first e = rw (ne_eqb which 2 e) at h
+  pub in_first : (which ≡ 2 → ⊥) → n ≤ length s
+  in_first e = rw (ne_eqb which 2 e) at h
 
   pub in_both : n ≤ length s + length t
   in_both =

@@ -72,8 +72,8 @@ module _ (l : Layout) (s : List ℕ) (q : Query) where
       pub goes_on : Going seek l s Seeking (next_of l s a.place) r
       goes_on = rw e w.next
 
-      pub keeps-place : Placed (length s) (outcome_of state) → Placed (length s) (outcome_of r)
-      keeps-place p = rw e (placed_on (length s) state a.handed.unit lies_in p)
+      pub keeps_place : Placed (length s) (outcome_of state) → Placed (length s) (outcome_of r)
+      keeps_place p = rw e (placed_on (length s) state a.handed.unit lies_in p)
 
   searched : (a : Reply) (state : Search) → Going seek l s Seeking a state → (a.number ≡ 0 → ⊥) →
       outcome_of state ≡ search_of l s q

@@ -22,7 +22,7 @@ use Rattle.cdf_lookup_spec.specs.Chosen.{None, FieldIn, Asked, Chosen, Lacks, st
 use Rattle.cdf_lookup_spec.specs.declared.Value.{Value}
 use Rattle.cdf_lookup_spec.specs.declared.Value.TheVariants.{At, Missing}
 use Rattle.cdf_lookup_spec.specs.declared.Lookup.{Lookup}
-use Rattle.cdf_lookup_spec.proofs.Telling.{first_some, first_none, some_first, asked-tells, field-tells}
+use Rattle.cdf_lookup_spec.proofs.Telling.{first_some, first_none, some_first, asked_tells, field_tells}
 
 -- The check's numbers are 0 and 3 to 10,
 abbrev OfCheck : ℕ → Type 0
@@ -77,9 +77,9 @@ module _ (l : Layout) (s : List ℕ) (q : Query) where
   abbrev pub is_asked : Unit → Bool
   is_asked = is_that_template l s q (listing l s).units
 
-  pub value-is : value_in l s q ≡ value_inside l s q (listing l s).units (first_that is_asked (listing l s).units)
+  pub value_is : value_in l s q ≡ value_inside l s q (listing l s).units (first_that is_asked (listing l s).units)
   unfolding value_in
-  value-is = refl
+  value_is = refl
 
   pub inside_is : (t : Unit) → value_inside l s q (listing l s).units (some t) ≡ value_of (first_that (is_field t) (listing l s).units)
   unfolding value_inside
@@ -90,19 +90,19 @@ module _ (l : Layout) (s : List ℕ) (q : Query) where
   inside_none = refl
 
   chosen : (start end : ℕ) → value_in l s q ≡ At start end → Chosen l s q start (end - start)
-  chosen start end e = go (first_that is_asked (listing l s).units) refl (sym value-is ∙ e)
+  chosen start end e = go (first_that is_asked (listing l s).units) refl (sym value_is ∙ e)
     where
-      with-field : (t : Unit) → first_that is_asked (listing l s).units ≡ some t → (o : Option Unit) → first_that (is_field t) (listing l s).units ≡ o →
+      with_field : (t : Unit) → first_that is_asked (listing l s).units ≡ some t → (o : Option Unit) → first_that (is_field t) (listing l s).units ≡ o →
           value_of o ≡ At start end → Chosen l s q start (end - start)
-      with-field t x none y z = clash cc
-      with-field t x (some u) y z =
+      with_field t x none y z = clash cc
+      with_field t x (some u) y z =
           let begins : start ≡ u.own = cc in
           let ends : end ≡ u.end = cc in
           record {
             template = t;
             field = u;
-            first_template = first_some is_asked (Asked l s q) (asked-tells l s q) (listing l s).units t x;
-            first_field = first_some (is_field t) (FieldIn l s q t) (field-tells l s q t) (listing l s).units u y;
+            first_template = first_some is_asked (Asked l s q) (asked_tells l s q) (listing l s).units t x;
+            first_field = first_some (is_field t) (FieldIn l s q t) (field_tells l s q t) (listing l s).units u y;
             begins = begins;
             long = rw (begins, ends);
           }
@@ -110,54 +110,54 @@ module _ (l : Layout) (s : List ℕ) (q : Query) where
       go : (o : Option Unit) → first_that is_asked (listing l s).units ≡ o → value_inside l s q (listing l s).units o ≡ At start end →
           Chosen l s q start (end - start)
       go none x z = clash (cc inside_none)
-      go (some t) x z = with-field t x (first_that (is_field t) (listing l s).units) refl (sym (inside_is t) ∙ z)
+      go (some t) x z = with_field t x (first_that (is_field t) (listing l s).units) refl (sym (inside_is t) ∙ z)
 
   lacks : value_in l s q ≡ Missing → Lacks l s q
   lacks e t f =
       go (first_that (is_field t) (listing l s).units) refl
-      (sym (inside_is t) ∙ (rw (some_first is_asked (Asked l s q) (asked-tells l s q) f) at (sym value-is ∙ e)))
+      (sym (inside_is t) ∙ (rw (some_first is_asked (Asked l s q) (asked_tells l s q) f) at (sym value_is ∙ e)))
     where
       go : (o : Option Unit) → first_that (is_field t) (listing l s).units ≡ o → value_of o ≡ Missing → None (FieldIn l s q t) (listing l s).units
-      go none x z = first_none (is_field t) (FieldIn l s q t) (field-tells l s q t) (listing l s).units x
+      go none x z = first_none (is_field t) (FieldIn l s q t) (field_tells l s q t) (listing l s).units x
       go (some u) x z = clash cc
 
 module _ (l m : Layout) (s t : List ℕ) (q : Query) where
-  pub named-one : (lookup_of l m s t q).number ≡ 0 → ((lookup_of l m s t q).which ≡ 1) ⊎ ((lookup_of l m s t q).which ≡ 2)
-  named-one = answered l m s t q (λ r. r.number ≡ 0 → (r.which ≡ 1) ⊎ (r.which ≡ 2)) (record {
+  pub named_one : (lookup_of l m s t q).number ≡ 0 → ((lookup_of l m s t q).which ≡ 1) ⊎ ((lookup_of l m s t q).which ≡ 2)
+  named_one = answered l m s t q (λ r. r.number ≡ 0 → (r.which ≡ 1) ⊎ (r.which ≡ 2)) (record {
     refused = λ n at some other z. absurd (some z);
     first = λ a e x z. inl refl;
     second = λ a e x y z. inr refl;
     neither = λ x y z. absurd (omega arith);
   })
 
-  pub chosen-part : (lookup_of l m s t q).number ≡ 0 →
+  pub chosen_part : (lookup_of l m s t q).number ≡ 0 →
       Chosen (stream_of (lookup_of l m s t q).which l m) (stream_of (lookup_of l m s t q).which s t) q (lookup_of l m s t q).start (lookup_of l m s t q).size
-  chosen-part = answered l m s t q (λ r. r.number ≡ 0 → Chosen (stream_of r.which l m) (stream_of r.which s t) q r.start r.size) (record {
+  chosen_part = answered l m s t q (λ r. r.number ≡ 0 → Chosen (stream_of r.which l m) (stream_of r.which s t) q r.start r.size) (record {
     refused = λ n at some other z. absurd (some z);
     first = λ a e x z. chosen l s q a e x;
     second = λ a e x y z. chosen m t q a e y;
     neither = λ x y z. absurd (omega arith);
   })
 
-  pub second-lacks : (lookup_of l m s t q).which ≡ 2 → Lacks l s q
-  second-lacks = answered l m s t q (λ r. r.which ≡ 2 → Lacks l s q) (record {
+  pub second_lacks : (lookup_of l m s t q).which ≡ 2 → Lacks l s q
+  second_lacks = answered l m s t q (λ r. r.which ≡ 2 → Lacks l s q) (record {
     refused = λ n at some other z. absurd (omega arith);
     first = λ a e x z. absurd (omega arith);
     second = λ a e x y z. lacks l s q x;
     neither = λ x y z. absurd (omega arith);
   })
 
-  pub both-lack : (lookup_of l m s t q).number ≡ 15 → Lacks l s q × Lacks m t q
-  both-lack = answered l m s t q (λ r. r.number ≡ 15 → Lacks l s q × Lacks m t q) (record {
+  pub both_lack : (lookup_of l m s t q).number ≡ 15 → Lacks l s q × Lacks m t q
+  both_lack = answered l m s t q (λ r. r.number ≡ 15 → Lacks l s q × Lacks m t q) (record {
     refused = λ n at some other z. absurd (other z);
     first = λ a e x z. absurd (omega arith);
     second = λ a e x y z. absurd (omega arith);
     neither = λ x y z. (lacks l s q x, lacks m t q y);
   })
 
-  pub refused-empty : ((lookup_of l m s t q).number ≡ 0 → ⊥) →
+  pub refused_empty : ((lookup_of l m s t q).number ≡ 0 → ⊥) →
       lookup_of l m s t q ≡ refusal (lookup_of l m s t q).number (lookup_of l m s t q).offset
-  refused-empty = answered l m s t q (λ r. (r.number ≡ 0 → ⊥) → r ≡ refusal r.number r.offset) (record {
+  refused_empty = answered l m s t q (λ r. (r.number ≡ 0 → ⊥) → r ≡ refusal r.number r.offset) (record {
     refused = λ n at some other z. refl;
     first = λ a e x z. absurd (z refl);
     second = λ a e x y z. absurd (z refl);

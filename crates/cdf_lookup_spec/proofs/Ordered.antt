@@ -78,11 +78,11 @@ key_first cs (front, rest, e, inl p, fields) = (temporary_key, rest, rw (e, p), 
 key_first cs (front, rest, e, inr (one, more, f, p, keys), fields) = (template_key, more ++ rest, rw (e, f, p), inr refl)
 
 module _ (l : Layout) where
-  next-key : (t : Unit) (x : ℕ) (inner : Forest) → Spells (production_of template).content (ids inner) →
+  next_key : (t : Unit) (x : ℕ) (inner : Forest) → Spells (production_of template).content (ids inner) →
       x + length (encode l inner) ≤ t.end → KeyNext t (list l x inner)
   unfolding list ids
-  next-key t x none p h = let k = key_first [] p in clash (cc k.2)
-  next-key t x (tree id action text inner rest) p h =
+  next_key t x none p h = let k = key_first [] p in clash (cc k.2)
+  next_key t x (tree id action text inner rest) p h =
       let k = key_first (id ∷ ids rest) p in
       let same : id ≡ k.0 = cc k.2 in
       (key_is _ (rw same k.3), omega (arith, long l id action text inner rest))
@@ -94,6 +94,6 @@ module _ (l : Layout) where
       let x = at + prefix_of l + length text in
       let end = at + prefix_of l + (length text + length (encode l inner)) in
       let t : Unit = record { id = id; action = action; start = at; own = x; end = end } in (
-        (λ e. next_on t (list l x inner) (list l end rest) (next-key t x inner (rw e at c.0.holds) (omega arith))),
+        (λ e. next_on t (list l x inner) (list l end rest) (next_key t x inner (rw e at c.0.holds) (omega arith))),
         keyed_both (list l x inner) (list l end rest) (keyed x inner c.1) (keyed end rest c.2),
       )

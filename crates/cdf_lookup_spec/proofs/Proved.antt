@@ -2,8 +2,8 @@
 use mathlib.Core.Path.{◌≡◌, refl}
 use Rattle.cdf_lookup_spec.specs.Samples.{samples_found, samples_due}
 use Rattle.cdf_lookup_spec.specs.Claims.{Claims}
-use Rattle.cdf_lookup_spec.proofs.Choosing.{named-one, chosen-part, second-lacks, equal_first, both-lack, refused-empty}
-use Rattle.cdf_lookup_spec.proofs.Deciding.{first-checked, second-checked, seven_is, grouped-answers, first_found, offset-none}
+use Rattle.cdf_lookup_spec.proofs.Choosing.{named_one, chosen_part, second_lacks, equal_first, both_lack, refused_empty}
+use Rattle.cdf_lookup_spec.proofs.Deciding.{first_checked, second_checked, seven_is, grouped_answers, first_found, offset_none}
 
 samples : samples_found ≡ samples_due
 unfolding samples_found
@@ -12,16 +12,16 @@ samples = refl
 pub proved : Claims
 proved = record {
   samples = samples;
-  checked = first-checked;
-  then_checked = second-checked;
+  checked = first_checked;
+  then_checked = second_checked;
   seven = seven_is;
-  answers = grouped-answers;
+  answers = grouped_answers;
   first = first_found;
-  offset = offset-none;
-  named = named-one;
-  value = chosen-part;
-  second = second-lacks;
+  offset = offset_none;
+  named = named_one;
+  value = chosen_part;
+  second = second_lacks;
   equal = equal_first;
-  missing = both-lack;
-  refused = refused-empty;
+  missing = both_lack;
+  refused = refused_empty;
 }

@@ -12,7 +12,7 @@ use Rattle.cdf_grammar.proofs.Proved.{stream_listing}
 use Rattle.cdf_lookup_spec.specs.Find.{Query, value_in}
 use Rattle.cdf_lookup_spec.specs.Search.{search_of}
 use Rattle.cdf_lookup_spec.proofs.Ordered.{rising, keyed}
-use Rattle.cdf_lookup_spec.proofs.Searching.{pass-finds}
+use Rattle.cdf_lookup_spec.proofs.Searching.{pass_finds}
 
 pub search_finds : (e : Edition) (s : List ℕ) (q : Query) (t : Forest) → Stream (layout_of e) s t →
     search_of (layout_of e) s q ≡ value_in (layout_of e) s q
@@ -20,4 +20,4 @@ unfolding search_of value_in
 search_finds e s q t p =
     let l = layout_of e in
     rw (ap (λ (r : Listing). r.units) (stream_listing e s t p))
-    (pass-finds l s q (list l 0 t) (0 + length (encode l t)) (rising l 0 t) (keyed l 0 t p.tree.conforms))
+    (pass_finds l s q (list l 0 t) (0 + length (encode l t)) (rising l 0 t) (keyed l 0 t p.tree.conforms))

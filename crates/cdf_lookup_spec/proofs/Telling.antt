@@ -116,17 +116,17 @@ module _ (l : Layout) (s : List ℕ) where
       let x = both (eqb u.id id) (same_bytes (text_to l s u to) text) e in
       (eqb-true u.id id x.0, bytes_same (text_to l s u to) text x.1)
 
-  reads-test : (id : ℕ) (text : List ℕ) (u : Unit) (to : ℕ) → (u.id ≡ id) × (text_to l s u to ≡ text) → reads l s id text u to ≡ true
+  reads_test : (id : ℕ) (text : List ℕ) (u : Unit) (to : ℕ) → (u.id ≡ id) × (text_to l s u to ≡ text) → reads l s id text u to ≡ true
   unfolding reads
-  reads-test id text u to p = and_true _ _ (eq-eqb u.id id p.0) (same_bytes_lem (text_to l s u to) text p.1)
+  reads_test id text u to p = and_true _ _ (eq-eqb u.id id p.0) (same_bytes_lem (text_to l s u to) text p.1)
 
-  name-tells : (id : ℕ) (name : List ℕ) → Tells (named l s id name) (HasName l s id name)
-  name-tells id name = record { fact = λ u. reads_fact id name u u.own; pass = λ u. reads-test id name u u.own }
+  name_tells : (id : ℕ) (name : List ℕ) → Tells (named l s id name) (HasName l s id name)
+  name_tells id name = record { fact = λ u. reads_fact id name u u.own; pass = λ u. reads_test id name u u.own }
 
   module _ (q : Query) where
-    pub field-tells : (t : Unit) → Tells (λ u. inside t u && named l s field q.field u) (FieldIn l s q t)
-    field-tells t =
-        tells_both (inside t) (named l s field q.field) (Within t) (HasName l s field q.field) (in_tells t) (name-tells field q.field)
+    pub field_tells : (t : Unit) → Tells (λ u. inside t u && named l s field q.field u) (FieldIn l s q t)
+    field_tells t =
+        tells_both (inside t) (named l s field q.field) (Within t) (HasName l s field q.field) (in_tells t) (name_tells field q.field)
 
     abbrev HasKey : Unit → Type 0
     HasKey t = (k : Unit) × First (KeyIn t) k (listing l s).units × (k.id ≡ q.key_id) × (key_of l s k ≡ q.key)
@@ -142,13 +142,13 @@ module _ (l : Layout) (s : List ℕ) where
         let is = reads_fact q.key_id q.key k k.end x in
         (k, first_some (λ u. inside t u && is_key u) (KeyIn t) (key_tells t) (listing l s).units k e, is.0, is.1)
 
-    key-test : (t : Unit) → HasKey t → key_test t ≡ true
+    key_test_lem : (t : Unit) → HasKey t → key_test t ≡ true
     unfolding passes
-    key-test t (k, f, id, bytes) =
-        rw (some_first (λ u. inside t u && is_key u) (KeyIn t) (key_tells t) f) (reads-test q.key_id q.key k k.end (id, bytes))
+    key_test_lem t (k, f, id, bytes) =
+        rw (some_first (λ u. inside t u && is_key u) (KeyIn t) (key_tells t) f) (reads_test q.key_id q.key k k.end (id, bytes))
 
-    pub asked-tells : Tells (is_that_template l s q (listing l s).units) (Asked l s q)
+    pub asked_tells : Tells (is_that_template l s q (listing l s).units) (Asked l s q)
     unfolding is_that_template
-    asked-tells =
-        tells_both (named l s template q.template) key_test (HasName l s template q.template) HasKey (name-tells template q.template)
-        (record { fact = λ t e. has_key t _ refl e; pass = key-test })
+    asked_tells =
+        tells_both (named l s template q.template) key_test (HasName l s template q.template) HasKey (name_tells template q.template)
+        (record { fact = λ t e. has_key t _ refl e; pass = key_test_lem })

@@ -33,8 +33,8 @@ module _ {A : Type 0} (Words : A → Type 0) (none : A) (zeros : Words none) whe
       record { top = t; x1 = x; x2 = y; x3 = z; words = (a.0, a.1.1.1.0, a.1.1.0, a.1.0); held = refl }
   slots (t ∷ z ∷ y ∷ x ∷ v ∷ xs) few a = absurd (omega arith)
 
-  slots-of : (xs : List A) (count : ℕ) → length xs ≡ count → count ≤ 4 → AllWords Words xs → Slots count xs
-  slots-of xs count e few a = rw (← e) (slots xs (omega arith) a)
+  slots_of : (xs : List A) (count : ℕ) → length xs ≡ count → count ≤ 4 → AllWords Words xs → Slots count xs
+  slots_of xs count e few a = rw (← e) (slots xs (omega arith) a)
 
 open_zeros : OpenWords no_open
 open_zeros = (omega arith, omega arith, omega arith)
@@ -44,8 +44,8 @@ viewed : (p : ReaderPlace) → length p.units ≤ 4 → length p.ranks ≡ lengt
 unfolding open_units open_ranks
 viewed p few each w =
     let count = length p.units in
-    let u = slots-of OpenWords no_open open_zeros p.units count refl few w.units in
-    let k = slots-of Word 0 (omega arith) p.ranks count each few w.ranks in (
+    let u = slots_of OpenWords no_open open_zeros p.units count refl few w.units in
+    let k = slots_of Word 0 (omega arith) p.ranks count each few w.ranks in (
       record {
         position = p.position;
         count = count;

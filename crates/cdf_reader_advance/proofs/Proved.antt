@@ -13,7 +13,7 @@ use Rattle.cdf_unit_data.specs.Data.{NameBytes}
 use Rattle.cdf_unit_judge.specs.Judge.{judge_in}
 use Rattle.cdf_unit_judge.specs.declared.Judged.{Judged}
 use Rattle.cdf_unit_judge.specs.declared.Judged.TheVariants.{Fault, Found}
-use Rattle.cdf_unit_judge.proofs.Faults.{told-by}
+use Rattle.cdf_unit_judge.proofs.Faults.{told_by}
 use Rattle.cdf_unit_list.specs.Stack.{Closing, incomplete, left, close, Step, done, refused, found, entered, with_state, step_in_by, step_by}
 use Rattle.cdf_unit_list.specs.declared.Open.{Open}
 use Rattle.cdf_reader_spec.specs.Place.{ReaderPlace}
@@ -110,24 +110,24 @@ module _ (w : NameBytes) (l : Layout) (s : List ℕ) (p : ReaderPlace) where
       go false e = absurd (may (failed e))
 
   -- The judge's numbers go up to 9.
-  entered-told : (around : ℕ → List Open) (state : ℕ) (t : List ℕ) →
+  entered_told : (around : ℕ → List Open) (state : ℕ) (t : List ℕ) →
       (stepped p (entered p.position around (judge_in w l false state t))).number ≤ 10
   unfolding entered stepped
-  entered-told around state t = go (judge_in w l false state t) refl
+  entered_told around state t = go (judge_in w l false state t) refl
     where
       go : (j : Judged) → judge_in w l false state t ≡ j → (stepped p (entered p.position around j)).number ≤ 10
-      go (Fault n k) e = omega (arith, (told-by l false t w state e).high)
+      go (Fault n k) e = omega (arith, (told_by l false t w state e).high)
       go (Found id action own len next) e = omega arith
 
-  closed-told : (c : Closing) → (stepped p (step_in_by w l s p.position c)).number ≤ 10
+  closed_told : (c : Closing) → (stepped p (step_in_by w l s p.position c)).number ≤ 10
   unfolding step_in_by stepped
-  closed-told (incomplete at) = omega arith
-  closed-told (left []) = omega arith
-  closed-told (left (o ∷ os)) = entered-told (λ state. with_state o state ∷ os) o.state (take (o.end - p.position) (drop p.position s))
+  closed_told (incomplete at) = omega arith
+  closed_told (left []) = omega arith
+  closed_told (left (o ∷ os)) = entered_told (λ state. with_state o state ∷ os) o.state (take (o.end - p.position) (drop p.position s))
 
-  step-told : (stepped p (next_step w l s p)).number ≤ 10
+  step_told : (stepped p (next_step w l s p)).number ≤ 10
   unfolding step_by
-  step-told = closed-told (close p.units p.position)
+  step_told = closed_told (close p.units p.position)
 
 -- Where a unit closes, the rank that is given does not matter.
 after_is : (os : List Open) (ks : List ℕ) (pos given : ℕ) → (rank_after os ks pos 0 ≡ 0) ⊎ (rank_after os ks pos 0 ≡ rank_after os ks pos given)
@@ -152,4 +152,4 @@ ranked p = go (innermost_at p.units p.last.start)
     go false = inr refl
 
 pub proved : Claims
-proved = record { unstepped = unstepped; steps = steps; told = step-told; ranked = ranked }
+proved = record { unstepped = unstepped; steps = steps; told = step_told; ranked = ranked }

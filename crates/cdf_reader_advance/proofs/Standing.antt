@@ -10,7 +10,7 @@ use Rattle.cdf_reader_spec.specs.Closing.{unclosed}
 use Rattle.cdf_reader_spec.specs.Ranking.{innermost_at, rank_after, next_rank}
 use Rattle.cdf_reader_spec.proofs.Counted.{length_open}
 use Rattle.cdf_reader_close.specs.Levels.{rank_at}
-use Rattle.cdf_reader_close.proofs.Levels.{most, rank-after}
+use Rattle.cdf_reader_close.proofs.Levels.{most, rank_after_lem}
 use Rattle.cdf_reader_cursor.specs.Outcomes.{cursor_place}
 use Rattle.cdf_reader_cursor.specs.declared.Cursor.{Cursor}
 use Rattle.cdf_reader_cursor.proofs.Again.{innermost}
@@ -36,7 +36,7 @@ module _ (c : Cursor) (left : ℕ) (is : Leaves c left) where
   Ranks given = cond (eqb left c.count) given (suc (rank_at (suc left) c.count c.ranks))
 
   by_left : (given : ℕ) → rank_after (cursor_place c).units (cursor_place c).ranks c.position given ≡ Ranks given
-  by_left given = rank-after c.position c.count c.top c.o1 c.o2 c.o3 c.ranks left is given
+  by_left given = rank_after_lem c.position c.count c.top c.o1 c.o2 c.o3 c.ranks left is given
 
   -- The one before, with the one after it.
   on_is : rank_on (cursor_place c) ≡ Ranks (suc c.ranks.last)

@@ -21,7 +21,7 @@ use Rattle.cdf_unit_judge.proofs.Placed.{placed}
 use Rattle.cdf_unit_list.specs.Stack.{close, entered, with_state, step_in_by, step, step_by}
 use Rattle.cdf_unit_list.specs.declared.Open.{Open}
 use Rattle.cdf_unit_list.proofs.Entering.{unit_from}
-use Rattle.cdf_unit_list.proofs.Stepping.{step-inside, step-closes}
+use Rattle.cdf_unit_list.proofs.Stepping.{step_inside, step_closes}
 use Rattle.cdf_reader_spec.specs.Place.{ReaderPlace, fits}
 use Rattle.cdf_reader_spec.specs.Closing.{unclosed}
 use Rattle.cdf_reader_spec.specs.Calls.{next_of}
@@ -30,7 +30,7 @@ use Rattle.cdf_reader_spec.proofs.Opened.{kinds_bounded, at_most_four}
 use Rattle.cdf_reader_spec.proofs.Suffix.{suffix, ends_most, ends_least, starts_least}
 use Rattle.cdf_reader_spec.proofs.Ranking.{on_stands}
 use Rattle.cdf_reader_spec.proofs.Replying.{next_is}
-use Rattle.cdf_reader_close.proofs.Unclosed.{close-unclosed, front, stops}
+use Rattle.cdf_reader_close.proofs.Unclosed.{close_unclosed, front, stops}
 use Rattle.cdf_reader_advance.specs.Advancing.{is_inside, has_bytes, rank_on, has_room, advanced_by, advanced}
 use Rattle.cdf_reader_advance.proofs.Stepped.{advanced_is, length_opened}
 
@@ -106,15 +106,15 @@ module _ (l : Layout) (s : List ℕ) (p : ReaderPlace) (fit : fits l (length s) 
         go : (b : Bool) → eqb top.end p.position ≡ b → has_room p (step l s (top ∷ os) p.position) ≡ true
         go true e =
             let at = eqb-true top.end p.position e in
-            rw (step-closes l s top os p.position at, stops p.position p.units top os is at)
+            rw (step_closes l s top os p.position at, stops p.position p.units top os is at)
         go false e =
             let off = eqb-false top.end p.position e in
-            rw (step-inside l s top os p.position (omega (arith, ends, off))) (room _ refl)
+            rw (step_inside l s top os p.position (omega (arith, ends, off))) (room _ refl)
 
   -- What is closed makes no other step.
   step_left : step l s p.units p.position ≡ step l s (unclosed p.units p.position) p.position
   unfolding step_by
-  step_left = rw (← close-unclosed p.position p.units)
+  step_left = rw (← close_unclosed p.position p.units)
 
   steady_by : (os : List Open) → unclosed p.units p.position ≡ os →
       (has_bytes (length s) p.position os && has_room p (step l s os p.position)) ≡ true

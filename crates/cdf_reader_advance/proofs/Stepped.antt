@@ -20,7 +20,7 @@ use Rattle.cdf_unit_list.specs.declared.Unit.{Unit}
 use Rattle.cdf_unit_list.specs.declared.Open.{Open}
 use Rattle.cdf_unit_list.specs.declared.Ranked.{Ranked}
 use Rattle.cdf_unit_list.proofs.Entering.{unit_from}
-use Rattle.cdf_unit_list.proofs.Stepping.{faults, enters, opened-parent, opened-leaf}
+use Rattle.cdf_unit_list.proofs.Stepping.{faults, enters, opened_parent, opened_leaf}
 use Rattle.cdf_reader_spec.specs.Place.{ReaderPlace}
 use Rattle.cdf_reader_spec.specs.Slots.{open_units}
 use Rattle.cdf_reader_spec.proofs.Counted.{length_open, split}
@@ -28,7 +28,7 @@ use Rattle.cdf_reader_spec.specs.Closing.{unclosed}
 use Rattle.cdf_reader_spec.specs.Ranking.{next_rank}
 use Rattle.cdf_reader_spec.specs.Calls.{refuse, stepped}
 use Rattle.cdf_reader_close.proofs.Levels.{left-ranks}
-use Rattle.cdf_reader_close.proofs.Unclosed.{close-unclosed, stops}
+use Rattle.cdf_reader_close.proofs.Unclosed.{close_unclosed, stops}
 use Rattle.cdf_reader_cursor.specs.Outcomes.{cursor_place, outcome_reply, refusal}
 use Rattle.cdf_reader_cursor.specs.Entering.{entering}
 use Rattle.cdf_reader_cursor.specs.declared.Cursor.{Cursor}
@@ -64,8 +64,8 @@ pub length_opened : (u : Unit) (os : List Open) → length (opened u os) ≡ con
 length_opened u os = go (opens u.id) refl
   where
     go : (b : Bool) → opens u.id ≡ b → length (opened u os) ≡ cond b (suc (length os)) (length os)
-    go true e = ap length (opened-parent u os e).0
-    go false e = ap length (opened-leaf u os e).0
+    go true e = ap length (opened_parent u os e).0
+    go false e = ap length (opened_leaf u os e).0
 
 -- A step inside the innermost of them.
 step_open : (judge : ℕ → List ℕ → Judged) (s : List ℕ) (position count : ℕ) (top o1 o2 o3 : Open) → (count ≡ 0 → ⊥) → (top.end ≡ position → ⊥) →
@@ -89,9 +89,9 @@ module _ (judge : ℕ → List ℕ → Judged) (s : List ℕ) (p : Cursor) where
     abbrev Next : Step
     Next = step_with judge s v.units p.position
 
-    by-close : Next ≡ step_in_with judge s p.position (close Left p.position)
+    by_close : Next ≡ step_in_with judge s p.position (close Left p.position)
     unfolding step_with
-    by-close = rw (close-unclosed p.position v.units, ← is)
+    by_close = rw (close_unclosed p.position v.units, ← is)
 
     pub leaves : Leaves p count
     leaves = sym (length_open count top p.o1 p.o2 p.o3) ∙ ap length is
@@ -100,20 +100,20 @@ module _ (judge : ℕ → List ℕ → Judged) (s : List ℕ) (p : Cursor) where
         advanced_with judge s v ≡ cond (has_bytes (length s) p.position os && has_room v x) (stepped v x) (refuse no_step 0 v)
     by_left os e x f = advanced_with_is judge s v ∙ rw (f, ← is, e)
 
-    pub at-end : count ≡ 0 → advanced_with judge s v ≡ refuse 1 0 v
+    pub at_end_lem : count ≡ 0 → advanced_with judge s v ≡ refuse 1 0 v
     unfolding step_in_with close open_units has_bytes has_room stepped
-    at-end none = by_left [] (rw none) done (by-close ∙ rw none)
+    at_end_lem none = by_left [] (rw none) done (by_close ∙ rw none)
 
     module _ (some : count ≡ 0 → ⊥) where
-      some-open : 1 ≤ p.count
-      some-open = omega (arith, few p count leaves, some)
+      some_open : 1 ≤ p.count
+      some_open = omega (arith, few p count leaves, some)
 
-      pub at-incomplete : top.end ≡ p.position → advanced_with judge s v ≡ refuse 10 top.start v
+      pub at_incomplete : top.end ≡ p.position → advanced_with judge s v ≡ refuse 10 top.start v
       unfolding step_in_with close has_bytes has_room stepped
-      at-incomplete e =
+      at_incomplete e =
           let w = split count top p.o1 p.o2 p.o3 some in
           by_left _ w.1 (refused 10 top.start)
-          (by-close ∙ rw (w.1, eq-eqb top.end p.position e, stops p.position v.units top w.0 (sym is ∙ w.1) e))
+          (by_close ∙ rw (w.1, eq-eqb top.end p.position e, stops p.position v.units top w.0 (sym is ∙ w.1) e))
           ∙ rw (eq-eqb top.end p.position e)
 
       -- Else the unit at the position is judged in what the innermost has left, if that is a part of the bytes.
@@ -125,7 +125,7 @@ module _ (judge : ℕ → List ℕ → Judged) (s : List ℕ) (p : Cursor) where
         Inside = is_inside (length s) p.position top
 
         inside : Next ≡ entered p.position (λ state. open_units count (with_state top state) p.o1 p.o2 p.o3) (judge top.state Rest)
-        inside = by-close ∙ step_open judge s p.position count top p.o1 p.o2 p.o3 some apart
+        inside = by_close ∙ step_open judge s p.position count top p.o1 p.o2 p.o3 some apart
 
         by_bytes : (x : Step) → Next ≡ x → advanced_with judge s v ≡ cond (Inside && has_room v x) (stepped v x) (refuse no_step 0 v)
         unfolding has_bytes
@@ -143,18 +143,18 @@ module _ (judge : ℕ → List ℕ → Judged) (s : List ℕ) (p : Cursor) where
               (ltb-true top.start p.position a.0, ltb-true p.position top.end b.0, leb-true top.end (length s) b.1)
 
           -- What a judge finds that keeps in its part lies in the bytes.
-          pub unit-within : Keeps judge → {id action own len state : ℕ} → judge top.state Rest ≡ Found id action own len state →
+          pub unit_within : Keeps judge → {id action own len state : ℕ} → judge top.state Rest ≡ Found id action own len state →
               (own ≤ len) × (p.position + len ≤ length s)
-          unit-within keeps e =
+          unit_within keeps e =
               omega (arith, subst (Lies (length Rest)) e (keeps top.state Rest), within, length-take (top.end - p.position) (drop p.position s))
 
-          pub fault-within : Keeps judge → {n k : ℕ} → judge top.state Rest ≡ Fault n k → p.position + k ≤ length s
-          fault-within keeps e =
+          pub fault_within : Keeps judge → {n k : ℕ} → judge top.state Rest ≡ Fault n k → p.position + k ≤ length s
+          fault_within keeps e =
               omega (arith, subst (Lies (length Rest)) e (keeps top.state Rest), within, length-take (top.end - p.position) (drop p.position s))
 
-          pub inside-fault : {n k : ℕ} → judge top.state Rest ≡ Fault n k → advanced_with judge s v ≡ refuse n (p.position + k) v
+          pub inside_fault : {n k : ℕ} → judge top.state Rest ≡ Fault n k → advanced_with judge s v ≡ refuse n (p.position + k) v
           unfolding has_room stepped
-          inside-fault {n} {k} j = by_bytes (refused n (p.position + k)) (inside ∙ rw j (faults _ _ _ _)) ∙ rw lies
+          inside_fault {n} {k} j = by_bytes (refused n (p.position + k)) (inside ∙ rw j (faults _ _ _ _)) ∙ rw lies
 
           module _ {id action own len state : ℕ} (j : judge top.state Rest ≡ Found id action own len state) where
             abbrev Unit' : Unit
@@ -171,16 +171,16 @@ module _ (judge : ℕ → List ℕ → Judged) (s : List ℕ) (p : Cursor) where
               abbrev Room : Bool
               Room = leb (cond (opens id) (suc count) count) 4 && ltb before p.position
 
-              room-is : has_room v Found' ≡ Room
+              room_is : has_room v Found' ≡ Room
               unfolding has_room
-              room-is =
+              room_is =
                   rw (← follow, length_opened Unit' Then, length_open count (with_state top state) p.o1 p.o2 p.o3)
 
-              by-room : advanced_with judge s v ≡ cond Room (stepped v Found') (refuse no_step 0 v)
-              by-room = by_bytes Found' (inside ∙ rw j (enters _ _ _ _ _ _ _)) ∙ rw (lies, room-is)
+              by_room : advanced_with judge s v ≡ cond Room (stepped v Found') (refuse no_step 0 v)
+              by_room = by_bytes Found' (inside ∙ rw j (enters _ _ _ _ _ _ _)) ∙ rw (lies, room_is)
 
               pub no_room : Room ≡ false → advanced_with judge s v ≡ refuse no_step 0 v
-              no_room e = by-room ∙ rw e
+              no_room e = by_room ∙ rw e
 
               module _ (room : Room ≡ true) where
                 tests : (cond (opens id) (suc count) count ≤ 4) × (suc before ≤ p.position)
@@ -190,7 +190,7 @@ module _ (judge : ℕ → List ℕ → Judged) (s : List ℕ) (p : Cursor) where
 
                 pub following : length s < 18446744073709551616 → Following p count before
                 following word =
-                    record { some = some-open; left = leaves; before = follow; low = omega (arith, tests.1, within, word) }
+                    record { some = some_open; left = leaves; before = follow; low = omega (arith, tests.1, within, word) }
 
                 pub slots : (opens id ≡ true → count ≤ 3) × (count ≤ 4)
                 slots = go (opens id) tests.0
@@ -199,20 +199,20 @@ module _ (judge : ℕ → List ℕ → Judged) (s : List ℕ) (p : Cursor) where
                     go true h = (λ e. omega arith, omega arith)
                     go false h = (λ e. absurd (false≢true e), h)
 
-                apart-start : (with_state top state).start ≡ p.position → ⊥
+                apart_start : (with_state top state).start ≡ p.position → ⊥
                 unfolding with_state
-                apart-start e = omega (arith, within)
+                apart_start e = omega (arith, within)
 
                 -- It is entered.
-                pub enters-found : (depth rank : ℕ) → depth ≡ suc count → rank ≡ next_rank v →
+                pub enters_found : (depth rank : ℕ) → depth ≡ suc count → rank ≡ next_rank v →
                     let h : Ranked = record { unit = Unit'; depth = depth; rank = rank } in
                     outcome_reply (entering p count top h state) ≡ advanced_with judge s v
-                enters-found depth rank deep next =
+                enters_found depth rank deep next =
                     steps v p count top _ state (omega arith) slots.0
                     (record {
                       left = left-ranks p.position p.count p.top p.o1 p.o2 p.o3 p.ranks count leaves;
                       next = sym next;
                       deep = deep;
-                      apart = apart-start;
+                      apart = apart_start;
                     })
-                    ∙ sym (by-room ∙ rw room)
+                    ∙ sym (by_room ∙ rw room)

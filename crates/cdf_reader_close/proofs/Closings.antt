@@ -45,10 +45,10 @@ module _ (position : ℕ) (before : List Open) (o1 o2 o3 : Open) where
       rw (ne_eqb n 1 (λ e. omega arith), ne_eqb n 2 (λ e. omega arith), ne_eqb n 3 (λ e. omega arith))
       (rw (ne_eqb (suc n) 2 (λ e. omega arith), ne_eqb (suc n) 3 (λ e. omega arith), ne_eqb (suc n) 4 (λ e. omega arith)))
 
-  next-inner : (k : ℕ) → around o1 o2 o3 k ≡ open_units k (outside (suc k) o1 o2 o3) o1 o2 o3
+  next_inner : (k : ℕ) → around o1 o2 o3 k ≡ open_units k (outside (suc k) o1 o2 o3) o1 o2 o3
   unfolding around open_units
-  next-inner zero = refl
-  next-inner (suc k) = rw (outer k)
+  next_inner zero = refl
+  next_inner (suc k) = rw (outer k)
 
   pub on : (left : ℕ) (inner : Open) → Going left inner → 0 < left → inner.end ≡ position → complete inner.state ≡ true →
       (next : Open) → next ≡ outside left o1 o2 o3 → Going (left - 1) next
@@ -56,4 +56,4 @@ module _ (position : ℕ) (before : List Open) (o1 o2 o3 : Open) where
   on zero inner g some e full next is = absurd (omega arith)
   on (suc k) inner g some e full next is =
       let less : suc k - 1 ≡ k = omega arith in
-      rw (less, is) (g ∙ rw (eq-eqb inner.end position e, full, next-inner k))
+      rw (less, is) (g ∙ rw (eq-eqb inner.end position e, full, next_inner k))

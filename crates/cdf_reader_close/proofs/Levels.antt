@@ -69,28 +69,28 @@ module _ (pos : ℕ) (o1 o2 o3 : Open) (r1 r2 r3 : ℕ) where
   unfolding held_of
   stays k m rank e = rw (e, eq-eqb (suc k) (suc k) refl)
 
-  stays-next : (k m rank given : ℕ) → m ≡ suc k → given ≡ cond (eqb m (suc k)) given (suc (level (suc m) (suc k) rank))
-  stays-next k m rank given e = rw (eq-eqb m (suc k) e)
+  stays_next : (k m rank given : ℕ) → m ≡ suc k → given ≡ cond (eqb m (suc k)) given (suc (level (suc m) (suc k) rank))
+  stays_next k m rank given e = rw (eq-eqb m (suc k) e)
 
   -- or it closes, and the units around it are asked.
-  closes-next : (k m rank given : ℕ) → m ≤ k →
+  closes_next : (k m rank given : ℕ) → m ≤ k →
       cond (eqb m k) (suc rank) (suc (level (suc m) k (Slot k))) ≡ cond (eqb m (suc k)) given (suc (level (suc m) (suc k) rank))
-  closes-next k m rank given h = rw (ne_eqb m (suc k) (λ e. omega arith)) (go (eqb m k) refl)
+  closes_next k m rank given h = rw (ne_eqb m (suc k) (λ e. omega arith)) (go (eqb m k) refl)
     where
       go : (b : Bool) → eqb m k ≡ b → cond b (suc rank) (suc (level (suc m) k (Slot k))) ≡ suc (level (suc m) (suc k) rank)
       go true e = rw (eqb-true m k e, eq-eqb (suc k) (suc k) refl)
       go false e = ap suc (outer k (suc m) rank (omega (arith, eqb-false m k e)))
 
-  around-of : (k : ℕ) → Of (around o1 o2 o3 k) (around_of 0 r1 r2 r3 k) k (slot o1 o2 o3 k) (Slot k)
+  around_of_lem : (k : ℕ) → Of (around o1 o2 o3 k) (around_of 0 r1 r2 r3 k) k (slot o1 o2 o3 k) (Slot k)
   unfolding open_units
-  around-of k = (inner_held _ o1 o2 o3 k, inner_held 0 r1 r2 r3 k)
+  around_of_lem k = (inner_held _ o1 o2 o3 k, inner_held 0 r1 r2 r3 k)
 
   leaves : (count : ℕ) (top : Open) (rank : ℕ) (us : List Open) (ks : List ℕ) → Of us ks count top rank → Leaves us ks count rank
   unfolding open_units held_of unclosed unclosed_ranks
   leaves zero top rank us ks is = rw is.0
   leaves (suc k) top rank us ks is =
       rw (is.0, is.1)
-      (go (closes pos top) (leaves k (slot o1 o2 o3 k) (Slot k) (around o1 o2 o3 k) (around_of 0 r1 r2 r3 k) (around-of k)))
+      (go (closes pos top) (leaves k (slot o1 o2 o3 k) (Slot k) (around o1 o2 o3 k) (around_of 0 r1 r2 r3 k) (around_of_lem k)))
     where
       go : (b : Bool) → Leaves (around o1 o2 o3 k) (around_of 0 r1 r2 r3 k) k (Slot k) →
           let m = length (cond b (unclosed (around o1 o2 o3 k) pos) (top ∷ around o1 o2 o3 k)) in
@@ -106,14 +106,14 @@ module _ (pos : ℕ) (o1 o2 o3 : Open) (r1 r2 r3 : ℕ) where
   follows zero top rank us ks is given = rw is.0
   follows (suc k) top rank us ks is given =
       rw (is.0, is.1)
-      (go (closes pos top) (follows k (slot o1 o2 o3 k) (Slot k) (around o1 o2 o3 k) (around_of 0 r1 r2 r3 k) (around-of k)))
+      (go (closes pos top) (follows k (slot o1 o2 o3 k) (Slot k) (around o1 o2 o3 k) (around_of 0 r1 r2 r3 k) (around_of_lem k)))
     where
       go : (b : Bool) → Follows (around o1 o2 o3 k) (around_of 0 r1 r2 r3 k) k (Slot k) →
           let m = length (cond b (unclosed (around o1 o2 o3 k) pos) (top ∷ around o1 o2 o3 k)) in
           cond b (rank_after (around o1 o2 o3 k) (around_of 0 r1 r2 r3 k) pos (suc rank)) given
           ≡ cond (eqb m (suc k)) given (suc (level (suc m) (suc k) rank))
-      go true ih = ih (suc rank) ∙ closes-next k (length (unclosed (around o1 o2 o3 k) pos)) rank given (few k)
-      go false ih = stays-next k (suc (length (around o1 o2 o3 k))) rank given (ap suc (length_around _ o1 o2 o3 k))
+      go true ih = ih (suc rank) ∙ closes_next k (length (unclosed (around o1 o2 o3 k) pos)) rank given (few k)
+      go false ih = stays_next k (suc (length (around o1 o2 o3 k))) rank given (ap suc (length_around _ o1 o2 o3 k))
 
 -- The same of a struct's parts, of which `left` units are left.
 module _ (position count : ℕ) (top o1 o2 o3 : Open) (k : Ranks) (left : ℕ)
@@ -124,8 +124,8 @@ module _ (position count : ℕ) (top o1 o2 o3 : Open) (k : Ranks) (left : ℕ)
   unfolding open_ranks
   left-ranks = rw is (leaves position o1 o2 o3 k.r1 k.r2 k.r3 count top k.top _ _ (refl, refl))
 
-  pub rank-after : (given : ℕ) →
+  pub rank_after_lem : (given : ℕ) →
       rank_after (open_units count top o1 o2 o3) (open_ranks count k) position given
       ≡ cond (eqb left count) given (suc (rank_at (suc left) count k))
   unfolding open_ranks
-  rank-after given = rw is (follows position o1 o2 o3 k.r1 k.r2 k.r3 count top k.top _ _ (refl, refl) given)
+  rank_after_lem given = rw is (follows position o1 o2 o3 k.r1 k.r2 k.r3 count top k.top _ _ (refl, refl) given)

@@ -18,10 +18,10 @@ first_or o (x ∷ os) = x
 
 module _ (pos : ℕ) where
   -- What closing comes to is decided by them.
-  pub close-unclosed : (os : List Open) → close os pos ≡ close (unclosed os pos) pos
+  pub close_unclosed : (os : List Open) → close os pos ≡ close (unclosed os pos) pos
   unfolding close unclosed
-  close-unclosed [] = refl
-  close-unclosed (o ∷ os) = go (eqb o.end pos) refl (complete o.state) refl (close-unclosed os)
+  close_unclosed [] = refl
+  close_unclosed (o ∷ os) = go (eqb o.end pos) refl (complete o.state) refl (close_unclosed os)
     where
       go : (a : Bool) → eqb o.end pos ≡ a → (b : Bool) → complete o.state ≡ b → close os pos ≡ close (unclosed os pos) pos →
           cond a (cond b (close os pos) (incomplete o.start)) (left (o ∷ os)) ≡ close (cond (a && b) (unclosed os pos) (o ∷ os)) pos

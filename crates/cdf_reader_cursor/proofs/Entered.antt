@@ -11,7 +11,7 @@ use Rattle.cdf_unit_list.specs.Units.{after}
 use Rattle.cdf_unit_list.specs.Stack.{found, opened, with_state}
 use Rattle.cdf_unit_list.specs.declared.Open.{Open}
 use Rattle.cdf_unit_list.specs.declared.Ranked.{Ranked}
-use Rattle.cdf_unit_list.proofs.Stepping.{fresh, opened-parent, opened-leaf}
+use Rattle.cdf_unit_list.proofs.Stepping.{fresh, opened_parent, opened_leaf}
 use Rattle.cdf_reader_spec.specs.Place.{ReaderPlace}
 use Rattle.cdf_reader_spec.specs.Closing.{unclosed_ranks}
 use Rattle.cdf_reader_spec.specs.Ranking.{next_rank, depth_at}
@@ -71,7 +71,7 @@ module _ (v : ReaderPlace) (c : Cursor) (h : Ranked) (outer : Open) where
     leaf_place : opens h.unit.id ≡ false → cursor_place (behind c count outer h) ≡ Place count
     unfolding open_ranks
     leaf_place shut =
-        let w = opened-leaf h.unit (open_units count outer c.o1 c.o2 c.o3) shut in
+        let w = opened_leaf h.unit (open_units count outer c.o1 c.o2 c.o3) shut in
         rw (w.0, w.1, shut, k.left, k.next)
 
     leaf : 1 ≤ count → opens h.unit.id ≡ false → outcome_reply (handing h (behind c count outer h)) ≡ Due count
@@ -91,7 +91,7 @@ module _ (v : ReaderPlace) (c : Cursor) (h : Ranked) (outer : Open) where
       pushed_place : cursor_place In ≡ Place count
       unfolding open_ranks
       pushed_place =
-          let w = opened-parent h.unit (open_units count outer c.o1 c.o2 c.o3) opening in
+          let w = opened_parent h.unit (open_units count outer c.o1 c.o2 c.o3) opening in
           rw (us, ks, w.0, w.1, opening, k.left, k.next)
 
       pushed : outcome_reply (handing h In) ≡ Due count

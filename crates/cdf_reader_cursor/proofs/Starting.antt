@@ -12,17 +12,17 @@ use Rattle.cdf_unit_judge.proofs.Placed.{placed}
 use Rattle.cdf_unit_list.specs.declared.Unit.{Unit}
 use Rattle.cdf_unit_list.specs.declared.Open.{Open}
 use Rattle.cdf_unit_list.proofs.Entering.{unit_from}
-use Rattle.cdf_unit_list.proofs.Stepping.{faults, enters, opened-parent}
+use Rattle.cdf_unit_list.proofs.Stepping.{faults, enters, opened_parent}
 use Rattle.cdf_reader_spec.specs.Calls.{refuse, empty_place, stepped, first_of}
 use Rattle.cdf_reader_spec.specs.Slots.{no_open, no_ranks, around, open_units, open_ranks, place_of}
-use Rattle.cdf_reader_spec.proofs.Replying.{first-is}
+use Rattle.cdf_reader_spec.proofs.Replying.{first_is}
 
 module _ (l : Layout) (s : List ℕ) where
-  pub first-fault : {n k : ℕ} → judge_of l true 0 s ≡ Fault n k → first_of l s ≡ refuse n k empty_place
+  pub first_fault : {n k : ℕ} → judge_of l true 0 s ≡ Fault n k → first_of l s ≡ refuse n k empty_place
   unfolding stepped
-  first-fault {n} {k} e =
+  first_fault {n} {k} e =
       let here : 0 + k ≡ k = omega arith in
-      rw (first-is l s, e, faults 0 (λ state. []) n k, here)
+      rw (first_is l s, e, faults 0 (λ state. []) n k, here)
 
   pub first_found : {id action own len state : ℕ} → judge_of l true 0 s ≡ Found id action own len state →
       let u : Unit = record { id = id; action = action; start = 0; own = own; end = len } in
@@ -39,7 +39,7 @@ module _ (l : Layout) (s : List ℕ) where
       let z = placed l true 0 s e in
       let first = root_first 0 id state z.may z.some in
       let opening = opens_by id state first z.some in
-      let w = opened-parent (unit_from 0 id action own len) [] opening in
+      let w = opened_parent (unit_from 0 id action own len) [] opening in
       let o : 0 + own ≡ own = omega arith in
       let n : 0 + len ≡ len = omega arith in
-      rw (first-is l s, e, enters 0 (λ state. []) id action own len state, w.0, w.1, opening, o, n, first)
+      rw (first_is l s, e, enters 0 (λ state. []) id action own len state, w.0, w.1, opening, o, n, first)

@@ -21,10 +21,10 @@ module _ (l : Layout) (n : ℕ) (top o1 o2 o3 : Open) where
   unfolding chain around
   wider x k e = rw (e, and-false)
 
-  fails-in : (k j : ℕ) → k ≤ j → chain l n (from (suc k)) ≡ false → chain l n (from (suc j)) ≡ false
+  fails_in : (k j : ℕ) → k ≤ j → chain l n (from (suc k)) ≡ false → chain l n (from (suc j)) ≡ false
   unfolding around
-  fails-in k zero h e = let same : k ≡ 0 = omega arith in rw same at e
-  fails-in k (suc j) h e = go (dec_lt k (suc j)) (fails-in k j)
+  fails_in k zero h e = let same : k ≡ 0 = omega arith in rw same at e
+  fails_in k (suc j) h e = go (dec_lt k (suc j)) (fails_in k j)
     where
       go : Dec (k < suc j) → (k ≤ j → chain l n (from (suc k)) ≡ false → chain l n (from (suc j)) ≡ false) →
           chain l n (from (suc (suc j))) ≡ false
@@ -37,16 +37,16 @@ module _ (l : Layout) (n : ℕ) (top o1 o2 o3 : Open) where
   unfolding open_units chain
   fails k zero e far = refl
   fails k (suc zero) e far = absurd (omega (arith, far (omega arith)))
-  fails k (suc (suc j)) e far = sym (wider top j (fails-in k j (go (dec_lt k (suc j))) e))
+  fails k (suc (suc j)) e far = sym (wider top j (fails_in k j (go (dec_lt k (suc j))) e))
     where
       go : Dec (k < suc j) → k ≤ j
       go (yes p) = omega arith
       go (no p) = absurd (omega (arith, far (omega arith)))
 
   -- There is no room for a fifth unit: one of zeros does not lie in another.
-  pub no-fifth : chain l n (from 4) ≡ false
+  pub no_fifth : chain l n (from 4) ≡ false
   unfolding chain around
-  no-fifth = rw (lt-leb (o3.start + prefix_of l) 0 (omega arith)) (simp and-false)
+  no_fifth = rw (lt-leb (o3.start + prefix_of l) 0 (omega arith)) (simp and-false)
 
 -- The returns of the code, in its order: `one` is that the outermost of several units holds, `two` and `three` those inside it.
 module _ (l : Layout) (n count : ℕ) (top o1 o2 o3 : Open) where
@@ -57,30 +57,30 @@ module _ (l : Layout) (n count : ℕ) (top o1 o2 o3 : Open) where
   unfolding chain around open_units
   single e = rw e
 
-  pub first-not : (count ≡ 1 → ⊥) → spans n o1 ≡ false → false ≡ Chain
+  pub first_not : (count ≡ 1 → ⊥) → spans n o1 ≡ false → false ≡ Chain
   unfolding chain around
-  first-not a e = fails l n top o1 o2 o3 0 count e (λ h. omega arith)
+  first_not a e = fails l n top o1 o2 o3 0 count e (λ h. omega arith)
 
   pub too_many : (count ≡ 1 → ⊥) → (count ≡ 2 → ⊥) → (count ≡ 3 → ⊥) → (count ≡ 4 → ⊥) → false ≡ Chain
-  too_many a b c d = fails l n top o1 o2 o3 3 count (no-fifth l n top o1 o2 o3) (λ h. omega arith)
+  too_many a b c d = fails l n top o1 o2 o3 3 count (no_fifth l n top o1 o2 o3) (λ h. omega arith)
 
   module _ (one : spans n o1 ≡ true) where
     pub double : count ≡ 2 → under l o1 top ≡ Chain
     unfolding chain around open_units
     double e = rw (e, one, and-true)
 
-    pub second-not : (count ≡ 1 → ⊥) → (count ≡ 2 → ⊥) → under l o1 o2 ≡ false → false ≡ Chain
+    pub second_not : (count ≡ 1 → ⊥) → (count ≡ 2 → ⊥) → under l o1 o2 ≡ false → false ≡ Chain
     unfolding chain around
-    second-not a b e = fails l n top o1 o2 o3 1 count (rw e) (λ h. omega arith)
+    second_not a b e = fails l n top o1 o2 o3 1 count (rw e) (λ h. omega arith)
 
     module _ (two : under l o1 o2 ≡ true) where
       pub triple : count ≡ 3 → under l o2 top ≡ Chain
       unfolding chain around open_units
       triple e = rw (e, two, one, and-true)
 
-      pub third-not : (count ≡ 1 → ⊥) → (count ≡ 2 → ⊥) → (count ≡ 3 → ⊥) → under l o2 o3 ≡ false → false ≡ Chain
+      pub third_not : (count ≡ 1 → ⊥) → (count ≡ 2 → ⊥) → (count ≡ 3 → ⊥) → under l o2 o3 ≡ false → false ≡ Chain
       unfolding chain around
-      third-not a b c e = fails l n top o1 o2 o3 2 count (rw e) (λ h. omega arith)
+      third_not a b c e = fails l n top o1 o2 o3 2 count (rw e) (λ h. omega arith)
 
       pub fourfold : under l o2 o3 ≡ true → count ≡ 4 → under l o3 top ≡ Chain
       unfolding chain around open_units

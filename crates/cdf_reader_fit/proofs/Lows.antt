@@ -52,19 +52,19 @@ module _ (e : Edition) (position count most : ℕ) (ks : Ranks) (is : most ≡ p
   may : ℕ → Bool
   may k = leb (k * prefix_of (layout_of e)) position
 
-  none-may : may 0 ≡ true
+  none_may : may 0 ≡ true
   unfolding may
-  none-may = le-leb (0 * prefix_of (layout_of e)) position (omega arith)
+  none_may = le-leb (0 * prefix_of (layout_of e)) position (omega arith)
 
   asks : (k : ℕ) → leb k most ≡ may k
   unfolding may
   asks k = rw is (by_quotient e k position)
 
-  pub all-low :
+  pub all_low :
       (leb ks.last most
       && ((ltb count 1 || leb ks.top most)
       && ((ltb count 4 || leb ks.r3 most) && ((ltb count 3 || leb ks.r2 most) && (ltb count 2 || leb ks.r1 most)))))
       ≡ every (λ k. leb (k * prefix_of (layout_of e)) position) (ks.last ∷ open_ranks count ks)
   unfolding every open_ranks may
-  all-low =
-      rw (asks ks.last, asks ks.top, asks ks.r1, asks ks.r2, asks ks.r3, by_count may none-may ks.top ks.r1 ks.r2 ks.r3 count)
+  all_low =
+      rw (asks ks.last, asks ks.top, asks ks.r1, asks ks.r2, asks ks.r3, by_count may none_may ks.top ks.r1 ks.r2 ks.r3 count)

@@ -19,8 +19,8 @@ use Rattle.cdf_reader_spec.specs.Slots.{around, open_units, open_ranks, place_of
 use Rattle.cdf_reader_spec.specs.Tests.{chain, just_entered}
 use Rattle.cdf_reader_spec.specs.declared.Ranks.{Ranks}
 use Rattle.cdf_reader_spec.proofs.Counted.{length_open, length_held}
-use Rattle.cdf_reader_spec.proofs.Fitting.{Fitting, fitting, fits-true, flag_fact, flag_test}
-use Rattle.cdf_reader_spec.proofs.Opened.{kinds_states, at_most_four, chain-clauses, clauses-chain}
+use Rattle.cdf_reader_spec.proofs.Fitting.{Fitting, fitting, fits_true, flag_fact, flag_test}
+use Rattle.cdf_reader_spec.proofs.Opened.{kinds_states, at_most_four, chain_clauses, clauses_chain}
 
 -- A test that cannot pass fails.
 pub no : (b : Bool) → (b ≡ true → ⊥) → false ≡ b
@@ -69,16 +69,16 @@ as_many count ks top o1 o2 o3 = length_held 0 count ks.top ks.r1 ks.r2 ks.r3 ∙
 
 module _ (l : Layout) (n position count : ℕ) (top o1 o2 o3 : Open) (last : Unit) (fresh : Bool) (ks : Ranks) where
   -- What is asked of the position and of the flag is asked of the innermost unit, where there is one.
-  top-position : (k : ℕ) → positioned l position (open_units k top o1 o2 o3) ≡ true →
+  top_position : (k : ℕ) → positioned l position (open_units k top o1 o2 o3) ≡ true →
       (leb (top.start + prefix_of l) position ≡ true) × (leb position top.end ≡ true)
   unfolding positioned open_units
-  top-position zero e = absurd (false≢true e)
-  top-position (suc k) e = both (leb (top.start + prefix_of l) position) (leb position top.end) e
+  top_position zero e = absurd (false≢true e)
+  top_position (suc k) e = both (leb (top.start + prefix_of l) position) (leb position top.end) e
 
-  top-last : (k : ℕ) → at_last position (open_units k top o1 o2 o3) last ≡ true → just_entered position top last ≡ true
+  top_last : (k : ℕ) → at_last position (open_units k top o1 o2 o3) last ≡ true → just_entered position top last ≡ true
   unfolding open_units at_last
-  top-last zero e = absurd (false≢true e)
-  top-last (suc k) e = last_entered position top (around o1 o2 o3 k) last e
+  top_last zero e = absurd (false≢true e)
+  top_last (suc k) e = last_entered position top (around o1 o2 o3 k) last e
 
   abbrev Fits : Bool
   Fits = fits l n (place_of position count top o1 o2 o3 last fresh ks)
@@ -86,11 +86,11 @@ module _ (l : Layout) (n position count : ℕ) (top o1 o2 o3 : Open) (last : Uni
   facts : Fits ≡ true → Fitting l n (place_of position count top o1 o2 o3 last fresh ks)
   facts = fitting l n (place_of position count top o1 o2 o3 last fresh ks)
 
-  pub past-not : leb (top.start + prefix_of l) position ≡ false → false ≡ Fits
-  past-not e = no Fits (λ h. absurd (false≢true (sym e ∙ (top-position count (facts h).position).0)))
+  pub past_not : leb (top.start + prefix_of l) position ≡ false → false ≡ Fits
+  past_not e = no Fits (λ h. absurd (false≢true (sym e ∙ (top_position count (facts h).position).0)))
 
-  pub end-not : top.end < position → false ≡ Fits
-  end-not e = no Fits (λ h. absurd (false≢true (sym (lt-leb position top.end e) ∙ (top-position count (facts h).position).1)))
+  pub end_not : top.end < position → false ≡ Fits
+  end_not e = no Fits (λ h. absurd (false≢true (sym (lt-leb position top.end e) ∙ (top_position count (facts h).position).1)))
 
   abbrev Bounds : Bool
   Bounds = leb (last.start + prefix_of l) last.own && (leb last.own last.end && leb last.end n)
@@ -103,12 +103,12 @@ module _ (l : Layout) (n position count : ℕ) (top o1 o2 o3 : Open) (last : Uni
         le-leb last.end n f.within,
       )
 
-  pub bounds-not : Bounds ≡ false → false ≡ Fits
-  bounds-not e = no Fits (λ h. absurd (false≢true (sym e ∙ bounds (facts h))))
+  pub bounds_not : Bounds ≡ false → false ≡ Fits
+  bounds_not e = no Fits (λ h. absurd (false≢true (sym e ∙ bounds (facts h))))
 
-  pub last-not : (not fresh || just_entered position top last) ≡ false → false ≡ Fits
-  last-not e =
-      no Fits (λ h. absurd (false≢true (sym e ∙ flag_test fresh (just_entered position top last) (λ x. top-last count ((facts h).last x)))))
+  pub last_not : (not fresh || just_entered position top last) ≡ false → false ≡ Fits
+  last_not e =
+      no Fits (λ h. absurd (false≢true (sym e ∙ flag_test fresh (just_entered position top last) (λ x. top_last count ((facts h).last x)))))
 
   -- The ranks of the open units, and the last unit's.
   abbrev Lows : Bool
@@ -118,8 +118,8 @@ module _ (l : Layout) (n position count : ℕ) (top o1 o2 o3 : Open) (last : Uni
   unfolding every
   lows f = rw (le-leb (ks.last * prefix_of l) position f.last_rank, f.ranks)
 
-  pub ranks-not : Lows ≡ false → false ≡ Fits
-  ranks-not e = no Fits (λ h. absurd (false≢true (sym e ∙ lows (facts h))))
+  pub ranks_not : Lows ≡ false → false ≡ Fits
+  ranks_not e = no Fits (λ h. absurd (false≢true (sym e ∙ lows (facts h))))
 
   -- All the other tests passed: it fits exactly if the open units do.
   module _ (low : leb (top.start + prefix_of l) position ≡ true) (high : position ≤ top.end) (bound : Bounds ≡ true)
@@ -130,7 +130,7 @@ module _ (l : Layout) (n position count : ℕ) (top o1 o2 o3 : Open) (last : Uni
     fit (suc k) same e =
         let r = both (leb (ks.last * prefix_of l) position) _ ranked in
         let os = top ∷ around o1 o2 o3 k in
-        let w = chain-clauses l n os e in
+        let w = chain_clauses l n os e in
         let states = kinds_states os w.0 in
         let x = both (leb (last.start + prefix_of l) last.own) _ bound in
         let y = both (leb last.own last.end) (leb last.end n) x.1 in
@@ -157,7 +157,7 @@ module _ (l : Layout) (n position count : ℕ) (top o1 o2 o3 : Open) (last : Uni
     by_chain = go (chain l n (open_units count top o1 o2 o3)) refl
       where
         go : (b : Bool) → chain l n (open_units count top o1 o2 o3) ≡ b → b ≡ Fits
-        go true e = sym (fits-true l n (place_of position count top o1 o2 o3 last fresh ks) (fit count refl e))
+        go true e = sym (fits_true l n (place_of position count top o1 o2 o3 last fresh ks) (fit count refl e))
         go false e =
             no Fits (λ h. let f = facts h in
-            absurd (false≢true (sym e ∙ clauses-chain l n (open_units count top o1 o2 o3) f.kinds f.starts f.ends)))
+            absurd (false≢true (sym e ∙ clauses_chain l n (open_units count top o1 o2 o3) f.kinds f.starts f.ends)))

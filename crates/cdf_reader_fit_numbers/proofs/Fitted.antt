@@ -15,10 +15,10 @@ use Rattle.cdf_reader_spec.specs.Place.{every, fits}
 use Rattle.cdf_reader_spec.specs.Slots.{around, open_units, open_ranks}
 use Rattle.cdf_reader_spec.specs.Tests.{chain, just_entered}
 use Rattle.cdf_reader_spec.proofs.Fitting.{fitting}
-use Rattle.cdf_reader_spec.proofs.Opened.{chain-clauses, clauses-chain}
+use Rattle.cdf_reader_spec.proofs.Opened.{chain_clauses, clauses_chain}
 use Rattle.cdf_reader_spec.proofs.Suffix.{ends_most}
 use Rattle.cdf_reader_fit.proofs.Lows.{by_quotient}
-use Rattle.cdf_reader_fit.proofs.Parted.{no, past-not, end-not, bounds-not, last-not, ranks-not, by_chain}
+use Rattle.cdf_reader_fit.proofs.Parted.{no, past_not, end_not, bounds_not, last_not, ranks_not, by_chain}
 use Rattle.cdf_reader.specs.View.{view}
 use Rattle.cdf_reader.specs.declared.Place.{Place}
 use Rattle.cdf_reader_open_numbers.specs.Held.{held, lasts}
@@ -32,7 +32,7 @@ every_same f g same (x ∷ xs) = rw (same x, every_same f g same xs)
 ends_in : (l : Layout) (n count : ℕ) (top o1 o2 o3 : Open) → chain l n (open_units count top o1 o2 o3) ≡ true → top.end ≤ n
 unfolding open_units chain
 ends_in l n zero top o1 o2 o3 e = absurd (false≢true e)
-ends_in l n (suc k) top o1 o2 o3 e = ends_most n top (around o1 o2 o3 k) (chain-clauses l n (top ∷ around o1 o2 o3 k) e).2
+ends_in l n (suc k) top o1 o2 o3 e = ends_most n top (around o1 o2 o3 k) (chain_clauses l n (top ∷ around o1 o2 o3 k) e).2
 
 module _ (edition : Edition) (n : ℕ) (p : Place) where
   abbrev l : Layout
@@ -53,29 +53,29 @@ module _ (edition : Edition) (n : ℕ) (p : Place) where
   abbrev Low : ℕ → Bool
   Low k = leb (k * prefix_of l) p.position
 
-  pub not-past : leb (p.top.start + prefix_of l) p.position ≡ false → false ≡ Fits
-  not-past = past-not l n p.position p.count p.top p.o1 p.o2 p.o3 p.last p.fresh p.ranks
+  pub not_past : leb (p.top.start + prefix_of l) p.position ≡ false → false ≡ Fits
+  not_past = past_not l n p.position p.count p.top p.o1 p.o2 p.o3 p.last p.fresh p.ranks
 
   pub not_in : p.top.end < p.position → false ≡ Fits
-  not_in = end-not l n p.position p.count p.top p.o1 p.o2 p.o3 p.last p.fresh p.ranks
+  not_in = end_not l n p.position p.count p.top p.o1 p.o2 p.o3 p.last p.fresh p.ranks
 
   pub not_last : lasts l n p ≡ false → false ≡ Fits
   not_last = go p.fresh refl
     where
       go : (b : Bool) → p.fresh ≡ b → cond b Entered Bounds ≡ false → false ≡ Fits
       go true f e =
-          last-not l n p.position p.count p.top p.o1 p.o2 p.o3 p.last p.fresh p.ranks (rw (f, e))
-      go false f e = bounds-not l n p.position p.count p.top p.o1 p.o2 p.o3 p.last p.fresh p.ranks e
+          last_not l n p.position p.count p.top p.o1 p.o2 p.o3 p.last p.fresh p.ranks (rw (f, e))
+      go false f e = bounds_not l n p.position p.count p.top p.o1 p.o2 p.o3 p.last p.fresh p.ranks e
 
   -- A rank is at most the quotient if its product is at most the position.
   module _ (most : ℕ) (is : most ≡ p.position / prefix_of l) where
     low : (k : ℕ) → leb k most ≡ Low k
     low k = rw is (by_quotient edition k p.position)
 
-    pub not-ranked : most < p.ranks.last → false ≡ Fits
+    pub not_ranked : most < p.ranks.last → false ≡ Fits
     unfolding every
-    not-ranked h =
-        ranks-not l n p.position p.count p.top p.o1 p.o2 p.o3 p.last p.fresh p.ranks
+    not_ranked h =
+        ranks_not l n p.position p.count p.top p.o1 p.o2 p.o3 p.last p.fresh p.ranks
         (rw (sym (low p.ranks.last) ∙ lt-leb p.ranks.last most h))
 
     module _ (past : leb (p.top.start + prefix_of l) p.position ≡ true) (within : p.position ≤ p.top.end)
@@ -105,23 +105,23 @@ module _ (edition : Edition) (n : ℕ) (p : Place) where
       abbrev Lows : Bool
       Lows = every Low (open_ranks p.count p.ranks)
 
-      last-low : Low p.ranks.last ≡ true
-      last-low = sym (low p.ranks.last) ∙ le-leb p.ranks.last most rank
+      last_low : Low p.ranks.last ≡ true
+      last_low = sym (low p.ranks.last) ∙ le-leb p.ranks.last most rank
 
       by_both : (c : Bool) → Chain ≡ c → (r : Bool) → Lows ≡ r → (c && r) ≡ Fits
       unfolding every
       by_both true c true r =
           sym c
           ∙ by_chain l n p.position p.count p.top p.o1 p.o2 p.o3 p.last p.fresh p.ranks past within
-          (bounded c p.fresh last) (flagged p.fresh last) (rw (last-low, r))
+          (bounded c p.fresh last) (flagged p.fresh last) (rw (last_low, r))
       by_both true c false r =
-          ranks-not l n p.position p.count p.top p.o1 p.o2 p.o3 p.last p.fresh p.ranks (rw (last-low, r))
+          ranks_not l n p.position p.count p.top p.o1 p.o2 p.o3 p.last p.fresh p.ranks (rw (last_low, r))
       by_both false c r _ =
           no Fits (λ h. let f = fitting l n (view p) h in
           absurd (false≢true
-          (sym c ∙ clauses-chain l n (open_units p.count p.top p.o1 p.o2 p.o3) f.kinds f.starts f.ends)))
+          (sym c ∙ clauses_chain l n (open_units p.count p.top p.o1 p.o2 p.o3) f.kinds f.starts f.ends)))
 
-      pub by-held : held l n most p p.count ≡ Fits
+      pub by_held : held l n most p p.count ≡ Fits
       unfolding held
-      by-held =
+      by_held =
           ap (λ b. Chain && b) (every_same (λ k. leb k most) Low low (open_ranks p.count p.ranks)) ∙ by_both Chain refl Lows refl

@@ -11,12 +11,12 @@ use Rattle.cdf_unit_prefix.specs.Layout.{layout_for}
 use Rattle.cdf_reader_spec.specs.Place.{ReaderPlace, fits}
 use Rattle.cdf_reader_spec.specs.Calls.{Reply, no_part, call_of, part_taken}
 use Rattle.cdf_reader_spec.specs.declared.Call.TheVariants.{Next}
-use Rattle.cdf_reader_spec.proofs.Replying.{next-named}
+use Rattle.cdf_reader_spec.proofs.Replying.{next_named}
 use Rattle.cdf_reader_cursor.specs.Outcomes.{outcome_reply, refusal}
 use Rattle.cdf_reader_cursor.specs.declared.Cursor.{Cursor}
 use Rattle.cdf_reader_advance.specs.Advancing.{advanced}
 use Rattle.cdf_reader_advance.proofs.Steady.{advances}
-use Rattle.cdf_reader_step.proofs.Asking.{next-none, next-some, useless, unfit}
+use Rattle.cdf_reader_step.proofs.Asking.{next_none, next_some, useless, unfit}
 use Rattle.cdf_reader.specs.View.{view}
 use Rattle.cdf_reader.specs.Cursors.{cursor_of}
 use Rattle.cdf_reader_numbers.specs.Numbers.{place_from, answer_numbers, Called}
@@ -63,14 +63,14 @@ module _ (s before : List ℕ) where
       (record { told = refl; answers = refl; moves = refl; stays = λ some. refl; written = λ none. absurd (some none) })
 
   pub empty : (place_from before).count ≡ 0 → Called Next s before 11 before (0 ∷ 0 ∷ 0 ∷ 0 ∷ 0 ∷ 0 ∷ 0 ∷ 0 ∷ 0 ∷ 0 ∷ [])
-  empty e = refused 11 (λ z. omega arith) (useless c (layout_for s) s Next (next-none c e) (refusal 11 0 c) refl).0
+  empty e = refused 11 (λ z. omega arith) (useless c (layout_for s) s Next (next_none c e) (refusal 11 0 c) refl).0
 
-  pub no-fit : ((place_from before).count ≡ 0 → ⊥) → fits (layout_for s) (length s) v ≡ false →
+  pub no_fit : ((place_from before).count ≡ 0 → ⊥) → fits (layout_for s) (length s) v ≡ false →
       Called Next s before 2 before (0 ∷ 0 ∷ 0 ∷ 0 ∷ 0 ∷ 0 ∷ 0 ∷ 0 ∷ 0 ∷ 0 ∷ [])
-  no-fit some e = refused 2 (λ z. omega arith) (unfit c (layout_for s) s Next (next-some c some) e (refusal 2 0 c) refl).0
+  no_fit some e = refused 2 (λ z. omega arith) (unfit c (layout_for s) s Next (next_some c some) e (refusal 2 0 c) refl).0
 
   -- At a place that fits a step is NEXT.
   pub steps : fits (layout_for s) (length s) v ≡ true → (number : ℕ) (after answer : List ℕ) →
       Stepped (advanced (layout_for s) s v) before number after answer → Called Next s before number after answer
   steps fit number after answer w =
-      called number after answer _ (advances (layout_for s) s v fit ∙ sym (next-named (layout_for s) s v)) w
+      called number after answer _ (advances (layout_for s) s v fit ∙ sym (next_named (layout_for s) s v)) w

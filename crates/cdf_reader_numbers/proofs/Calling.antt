@@ -10,13 +10,13 @@ use Rattle.cdf_reader_spec.specs.Place.{ReaderPlace}
 use Rattle.cdf_reader_spec.specs.Calls.{Reply, Part, is_start, call_of, part_taken}
 use Rattle.cdf_reader_spec.specs.declared.Call.{Call}
 use Rattle.cdf_reader_spec.specs.declared.Call.TheVariants.{Start, Next, Skip, GetStream, Previous}
-use Rattle.cdf_reader_spec.proofs.Replying.{part-is, take-named}
+use Rattle.cdf_reader_spec.proofs.Replying.{part_is, take_named}
 use Rattle.cdf_reader.specs.View.{view, reply_of}
 use Rattle.cdf_reader.specs.Uses.{place_kept}
 use Rattle.cdf_reader.specs.declared.Place.{Place}
 use Rattle.cdf_reader.specs.declared.Answer.{Answer}
 use Rattle.cdf_reader.proofs.Keeping.{cleared}
-use Rattle.cdf_reader.proofs.Passing.{part-within}
+use Rattle.cdf_reader.proofs.Passing.{part_within}
 use Rattle.cdf_reader_numbers.specs.Numbers.{place_from, numbers_of, answer_numbers, reply_to, numbers_kept, keeps, Called}
 use Rattle.cdf_reader_numbers.specs.Taking.{is_take, part_by}
 use Rattle.cdf_reader_numbers.proofs.Written.{read_again}
@@ -29,7 +29,7 @@ module _ (s : List ℕ) (v : ReaderPlace) where
   taken_is Start = refl
   taken_is Next = refl
   taken_is Skip = refl
-  taken_is GetStream = rw take-named (part-is (layout_for s) s v)
+  taken_is GetStream = rw take_named (part_is (layout_for s) s v)
   taken_is Previous = refl
 
   -- It lies in the bytes.
@@ -37,7 +37,7 @@ module _ (s : List ℕ) (v : ReaderPlace) where
   take_within Start e z = absurd (true≢false (sym e))
   take_within Next e z = absurd (true≢false (sym e))
   take_within Skip e z = absurd (true≢false (sym e))
-  take_within GetStream e z = (part-within (layout_for s) s v (rw take-named at z)).0
+  take_within GetStream e z = (part_within (layout_for s) s v (rw take_named at z)).0
   take_within Previous e z = absurd (true≢false (sym e))
 
 -- What a call keeps was not a start's to clear, and is the place that was given;
@@ -80,11 +80,11 @@ pub record Answered (c : Call) (s before : List ℕ) (a : Answer) (answer : List
 
 module _ {c : Call} {s before answer : List ℕ} {a : Answer} (w : Answered c s before a answer) where
   -- The reply and the part are those due to the numbers.
-  due-is : reply_of a ≡ call_of (layout_for s) s (view (place_from before)) c
-  due-is = w.due ∙ ap (λ (q : Place). call_of (layout_for s) s (view q) c) w.read
+  due_is : reply_of a ≡ call_of (layout_for s) s (view (place_from before)) c
+  due_is = w.due ∙ ap (λ (q : Place). call_of (layout_for s) s (view q) c) w.read
 
-  part-due : w.part ≡ part_taken (layout_for s) s (view (place_from before)) c
-  part-due =
+  part_due : w.part ≡ part_taken (layout_for s) s (view (place_from before)) c
+  part_due =
       w.by
       ∙ ap (λ (r : Reply). part_by c r.number w.place.last.start w.place.last.end) w.due
       ∙ sym (taken_is s (view w.place) c)
@@ -94,10 +94,10 @@ module _ {c : Call} {s before answer : List ℕ} {a : Answer} (w : Answered c s 
       (keeps c a.number ≡ true → after ≡ before) → (keeps c a.number ≡ false → after ≡ numbers_of a.place) →
       Called c s before a.number after answer
   leaves after same stays again new =
-      let place : view a.place ≡ (reply_to c s before).place = ap (λ (r : Reply). r.place) due-is in
+      let place : view a.place ≡ (reply_to c s before).place = ap (λ (r : Reply). r.place) due_is in
       record {
-        told = ap (λ (r : Reply). r.number) due-is;
-        answers = w.written ∙ ap (λ r. answer_numbers r w.part) due-is ∙ ap (answer_numbers (reply_to c s before)) part-due;
+        told = ap (λ (r : Reply). r.number) due_is;
+        answers = w.written ∙ ap (λ r. answer_numbers r w.part) due_is ∙ ap (answer_numbers (reply_to c s before)) part_due;
         moves = same ∙ place;
         stays = stays;
         again = again;
@@ -105,15 +105,15 @@ module _ {c : Call} {s before answer : List ℕ} {a : Answer} (w : Answered c s 
       }
 
   -- The place's numbers stay where the call keeps them,
-  pub leaves-old : keeps c a.number ≡ true → Called c s before a.number before answer
-  leaves-old e =
+  pub leaves_old : keeps c a.number ≡ true → Called c s before a.number before answer
+  leaves_old e =
       let same = kept_place c a.number w.place a.place e w.kept w.again ∙ w.read in
       leaves before (ap view (sym same)) (λ _. kept_numbers c a.number before e) (λ _. refl) (λ f. absurd (true≢false (sym e ∙ f)))
 
   -- and else they are written.
-  pub leaves-new : keeps c a.number ≡ false → (after : List ℕ) → after ≡ numbers_of a.place →
+  pub leaves_new : keeps c a.number ≡ false → (after : List ℕ) → after ≡ numbers_of a.place →
       Called c s before a.number after answer
-  leaves-new e after is =
+  leaves_new e after is =
       leaves after (ap (λ ns. view (place_from ns)) is ∙ ap view (read_again a.place)) (λ h. is ∙ clear h (cleared_by c a.number e h))
       (λ t. absurd (true≢false (sym t ∙ e))) (λ _. is)
     where

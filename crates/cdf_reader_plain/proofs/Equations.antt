@@ -28,76 +28,76 @@ module _ (l : Layout) (s : List ℕ) (p : ReaderPlace) where
   abbrev Asks : Call → Reply → Part → Type 0
   Asks c r part = (call_of l s p c ≡ r) × (part_taken l s p c ≡ part)
 
-  pub start-call : Asks Start (first_of l s) no_part
+  pub start_call : Asks Start (first_of l s) no_part
   unfolding call_of part_taken
-  start-call = (refl, refl)
+  start_call = (refl, refl)
 
-  pub next-call : Asks Next (next_of l s p) no_part
+  pub next_call : Asks Next (next_of l s p) no_part
   unfolding call_of part_taken
-  next-call = (refl, refl)
+  next_call = (refl, refl)
 
-  pub skip-call : Asks Skip (skip_of l s p) no_part
+  pub skip_call : Asks Skip (skip_of l s p) no_part
   unfolding call_of part_taken
-  skip-call = (refl, refl)
+  skip_call = (refl, refl)
 
-  pub take-call : Asks GetStream (take_of l s p) (part_of l s p)
+  pub take_call : Asks GetStream (take_of l s p) (part_of l s p)
   unfolding call_of part_taken
-  take-call = (refl, refl)
+  take_call = (refl, refl)
 
-  pub previous-call : Asks Previous (previous_of l s p) no_part
+  pub previous_call : Asks Previous (previous_of l s p) no_part
   unfolding call_of part_taken
-  previous-call = (refl, refl)
+  previous_call = (refl, refl)
 
 -- Each call of the plain reader: its turn.
 module _ (first : Ranked) (rest : List Ranked) (st : State) where
-  pub start-turn : plain_answer first rest st Start ≡ turn (handing first) (fresh_at first rest)
+  pub start_turn : plain_answer first rest st Start ≡ turn (handing first) (fresh_at first rest)
   unfolding plain_answer
-  start-turn = refl
+  start_turn = refl
 
-  pub next-turn : plain_answer first rest st Next ≡ hand_out st (followers (first ∷ rest) st)
+  pub next_turn : plain_answer first rest st Next ≡ hand_out st (followers (first ∷ rest) st)
   unfolding plain_answer
-  next-turn = refl
+  next_turn = refl
 
-  pub skip-turn : plain_answer first rest st Skip ≡ pass (st.fresh && opens st.unit.unit.id) no_part st
+  pub skip_turn : plain_answer first rest st Skip ≡ pass (st.fresh && opens st.unit.unit.id) no_part st
   unfolding plain_answer
-  skip-turn = refl
+  skip_turn = refl
 
-  pub take-turn : plain_answer first rest st GetStream ≡ pass (st.fresh && is_group st.unit.unit.id) (span_of st.unit.unit) st
+  pub take_turn : plain_answer first rest st GetStream ≡ pass (st.fresh && is_group st.unit.unit.id) (span_of st.unit.unit) st
   unfolding plain_answer
-  take-turn = refl
+  take_turn = refl
 
-  pub previous-turn : plain_answer first rest st Previous ≡ turn (handing st.unit) st
+  pub previous_turn : plain_answer first rest st Previous ≡ turn (handing st.unit) st
   unfolding plain_answer
-  previous-turn = refl
+  previous_turn = refl
 
 -- A run of no call, and of one more.
 module _ (l : Layout) (s : List ℕ) (p : ReaderPlace) where
-  pub reader-none : reader_run l s p [] ≡ []
+  pub reader_none : reader_run l s p [] ≡ []
   unfolding reader_run
-  reader-none = refl
+  reader_none = refl
 
   pub place_none : place_after l s p [] ≡ p
   unfolding place_after
   place_none = refl
 
   module _ (c : Call) (cs : List Call) where
-    pub reader-on : reader_run l s p (c ∷ cs) ≡ tells l s p c ∷ reader_run l s (call_of l s p c).place cs
+    pub reader_on : reader_run l s p (c ∷ cs) ≡ tells l s p c ∷ reader_run l s (call_of l s p c).place cs
     unfolding reader_run
-    reader-on = refl
+    reader_on = refl
 
-    pub place-on : place_after l s p (c ∷ cs) ≡ place_after l s (call_of l s p c).place cs
+    pub place_on : place_after l s p (c ∷ cs) ≡ place_after l s (call_of l s p c).place cs
     unfolding place_after
-    place-on = refl
+    place_on = refl
 
 module _ (first : Ranked) (rest : List Ranked) where
   module _ (st : State) where
-    pub plain-none : plain_from first rest st [] ≡ []
+    pub plain_none : plain_from first rest st [] ≡ []
     unfolding plain_from
-    plain-none = refl
+    plain_none = refl
 
-    pub state-none : state_from first rest st [] ≡ st
+    pub state_none : state_from first rest st [] ≡ st
     unfolding state_from
-    state-none = refl
+    state_none = refl
 
     module _ (c : Call) (cs : List Call) where
       pub plain-on :
@@ -106,19 +106,19 @@ module _ (first : Ranked) (rest : List Ranked) where
       unfolding plain_from
       plain-on = refl
 
-      pub state-on : state_from first rest st (c ∷ cs) ≡ state_from first rest (plain_answer first rest st c).state cs
+      pub state_on : state_from first rest st (c ∷ cs) ≡ state_from first rest (plain_answer first rest st c).state cs
       unfolding state_from
-      state-on = refl
+      state_on = refl
 
   -- It begins with a start.
   module _ (cs : List Call) where
-    pub plain-is : plain_run first rest cs ≡ handing first ∷ plain_from first rest (fresh_at first rest) cs
+    pub plain_is : plain_run first rest cs ≡ handing first ∷ plain_from first rest (fresh_at first rest) cs
     unfolding plain_run
-    plain-is = refl
+    plain_is = refl
 
-    pub following-is : following first rest cs ≡ followers (first ∷ rest) (state_from first rest (fresh_at first rest) cs)
+    pub following_is : following first rest cs ≡ followers (first ∷ rest) (state_from first rest (fresh_at first rest) cs)
     unfolding following
-    following-is = refl
+    following_is = refl
 
 -- What the reader tells of a call after a start and some.
 pub after_is : (l : Layout) (s : List ℕ) (cs : List Call) (c : Call) →

@@ -14,9 +14,9 @@ use Rattle.cdf_unit_list.specs.Stack.{Step, step}
 use Rattle.cdf_unit_list.specs.declared.Unit.{Unit}
 use Rattle.cdf_unit_list.specs.declared.Ranked.{Ranked}
 use Rattle.cdf_unit_list.specs.declared.Open.{Open}
-use Rattle.cdf_unit_list.proofs.Few.{Further, step-further}
-use Rattle.cdf_grammar.proofs.Nesting.{Within, nest-open, leaves}
-use Rattle.cdf_reader_runs.proofs.Steps.{Run, ends, breaks, hands, ended-run, run-steps}
+use Rattle.cdf_unit_list.proofs.Few.{Further, step_further}
+use Rattle.cdf_grammar.proofs.Nesting.{Within, nest_open, leaves}
+use Rattle.cdf_reader_runs.proofs.Steps.{Run, ends, breaks, hands, ended_run, run_steps}
 use Rattle.cdf_reader_plain.specs.Plain.{starting_at}
 
 -- A unit that starts before the position is passed over,
@@ -46,12 +46,12 @@ further_on from at h (u ∷ us) = go (leb from u.unit.start) refl (further_on fr
 
 module _ (l : Layout) (s : List ℕ) where
   -- The run from a position starts there.
-  run-starts : {x : Step} {us : List Unit} {e : End} → Run l s x us e → (pos : ℕ) → Further l s pos x → (before : List Unit) →
+  run_starts : {x : Step} {us : List Unit} {e : End} → Run l s x us e → (pos : ℕ) → Further l s pos x → (before : List Unit) →
       starting_at pos (ranked before us) ≡ ranked before us
   unfolding starting_at ranked standing
-  run-starts ends pos at before = refl
-  run-starts breaks pos at before = refl
-  run-starts (hands {u = u} run) pos at before = rw (le-leb pos u.start (omega arith))
+  run_starts ends pos at before = refl
+  run_starts breaks pos at before = refl
+  run_starts (hands {u = u} run) pos at before = rw (le-leb pos u.start (omega arith))
 
   -- From inside an open unit: first come those that lie in it, the last one first, and then the run from its end of what is around it.
   pub record Past (os : List Open) (pos end : ℕ) (us : List Unit) : Type 0 where
@@ -64,17 +64,17 @@ module _ (l : Layout) (s : List ℕ) where
   pub run_past : (o : Open) (os : List Open) (pos : ℕ) (us : List Unit) → pos ≤ o.end → Run l s (step l s (o ∷ os) pos) us ended →
       (end : ℕ) → o.end ≡ end → Past os pos end us
   run_past o os pos us h run end e =
-      let all = run-steps l s run (suc (length us)) (omega arith) [] in
-      let v = leaves (nest-open l s (suc (length us)) o os pos [] h) (ap (λ (x : Listing). x.end) all) in
+      let all = run_steps l s run (suc (length us)) (omega arith) [] in
+      let v = leaves (nest_open l s (suc (length us)) o os pos [] h) (ap (λ (x : Listing). x.end) all) in
       let on = sym v.on ∙ all in
-      let w = ended-run l s v.fuel (step l s os o.end) (v.inside ++ []) (ap (λ (x : Listing). x.end) on) in
+      let w = ended_run l s v.fuel (step l s os o.end) (v.inside ++ []) (ap (λ (x : Listing). x.end) on) in
       let units = sym (ap (λ (x : Listing). x.units) on) ∙ w.1 ∙ ap (λ xs. reverse_aux xs w.0) (append-nil v.inside) in
       rw (← e) (record { inside = v.inside; within = v.within; later = w.0; units = units; run = w.2 })
 
   -- These are the units of the list that start at its end or after it.
-  pub past-later : {os : List Open} {pos end : ℕ} {us : List Unit} (p : Past os pos end us) (before : List Unit) →
+  pub past_later : {os : List Open} {pos end : ℕ} {us : List Unit} (p : Past os pos end us) (before : List Unit) →
       starting_at end (ranked before us) ≡ ranked (p.inside ++ before) p.later
-  past-later {os} {pos} {end} {us} p before =
+  past_later {os} {pos} {end} {us} p before =
       ap (λ x. starting_at end (ranked before x)) p.units
       ∙ lie_before pos end p.inside p.later before p.within
-      ∙ run-starts p.run end (step-further l s end os) (p.inside ++ before)
+      ∙ run_starts p.run end (step_further l s end os) (p.inside ++ before)

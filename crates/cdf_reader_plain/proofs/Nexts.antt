@@ -13,12 +13,12 @@ use Rattle.cdf_unit_list.specs.declared.Ranked.{Ranked}
 use Rattle.cdf_reader_spec.specs.Calls.{Reply, empty_place, first_of, next_of, no_part}
 use Rattle.cdf_reader_spec.specs.declared.Call.TheVariants.{Start, Next}
 use Rattle.cdf_reader_runs.specs.Runs.{reading, Outcome, outcome, afterwards, due, handed_out}
-use Rattle.cdf_reader_runs.proofs.Readings.{onward, reading-onward}
+use Rattle.cdf_reader_runs.proofs.Readings.{onward, reading_onward}
 use Rattle.cdf_reader_runs.proofs.Proved.{proved as runs}
 use Rattle.cdf_reader_plain.specs.Calls.{Told, handing}
 use Rattle.cdf_reader_plain.specs.Runs.{reader_run}
 use Rattle.cdf_reader_plain.specs.Nexts.{handing_all, partless, ever_after, zeros}
-use Rattle.cdf_reader_plain.proofs.Equations.{telling, start-call, next-call, reader-none, reader-on}
+use Rattle.cdf_reader_plain.proofs.Equations.{telling, start_call, next_call, reader_none, reader_on}
 
 -- The first n of a sequence.
 unfoldable front : ℕ → (ℕ → Told) → List Told
@@ -64,39 +64,39 @@ zeros_front f (suc n) =
 
 module _ (l : Layout) (s : List ℕ) where
   -- After an answer: those of the nexts from its place,
-  nexts-from : (k : ℕ) (r : Reply) →
+  nexts_from : (k : ℕ) (r : Reply) →
       reader_run l s r.place (replicate k Next) ≡ front k (λ m. telling (onward l s r (suc m)) no_part)
   unfolding front onward
-  nexts-from zero r = reader-none l s r.place
-  nexts-from (suc k) r =
-      let c = next-call l s r.place in
-      rw (reader-on l s r.place Next (replicate k Next), c.0, c.1, nexts-from k (next_of l s r.place))
+  nexts_from zero r = reader_none l s r.place
+  nexts_from (suc k) r =
+      let c = next_call l s r.place in
+      rw (reader_on l s r.place Next (replicate k Next), c.0, c.1, nexts_from k (next_of l s r.place))
 
   -- and so from a start: the two kinds of run are one.
-  nexts-reading : (k : ℕ) → reader_run l s empty_place (Start ∷ replicate k Next) ≡ front (suc k) (λ m. telling (reading l s m) no_part)
+  nexts_reading : (k : ℕ) → reader_run l s empty_place (Start ∷ replicate k Next) ≡ front (suc k) (λ m. telling (reading l s m) no_part)
   unfolding front onward
-  nexts-reading k =
-      let c = start-call l s empty_place in
-      rw (reader-on l s empty_place Start (replicate k Next), c.0, c.1, nexts-from k (first_of l s))
+  nexts_reading k =
+      let c = start_call l s empty_place in
+      rw (reader_on l s empty_place Start (replicate k Next), c.0, c.1, nexts_from k (first_of l s))
       (front_same (suc k) (λ m. telling (onward l s (first_of l s) m) no_part) (λ m. telling (reading l s m) no_part)
-      (λ m. rw (reading-onward l s m)))
+      (λ m. rw (reading_onward l s m)))
 
   pub nexts : ((listing l s).units ≡ [] → ⊥) → (k : ℕ) →
       reader_run l s empty_place (Start ∷ replicate k Next) ≡ handing_all (suc k) (ranked_units l s) (ever_after (check_of l s))
   unfolding outcome
   nexts some k =
       let last = afterwards (check_of l s) in
-      nexts-reading k
+      nexts_reading k
       ∙ front_same (suc k) (λ m. telling (reading l s m) no_part) (λ m. partless (due last (ranked_units l s) m))
       (λ m. ap partless (runs.reads l s some m))
       ∙ all_handed last (ranked_units l s) (suc k)
 
-  handed-counted : (n : ℕ) → handed_out l s n ≡ counted (λ m. (reading l s m).number) n
+  handed_counted : (n : ℕ) → handed_out l s n ≡ counted (λ m. (reading l s m).number) n
   unfolding handed_out counted
-  handed-counted zero = refl
-  handed-counted (suc n) = ap (λ c. cond (eqb (reading l s n).number 0) (suc c) c) (handed-counted n)
+  handed_counted zero = refl
+  handed_counted (suc n) = ap (λ c. cond (eqb (reading l s n).number 0) (suc c) c) (handed_counted n)
 
   pub few : (k : ℕ) → zeros (reader_run l s empty_place (Start ∷ replicate k Next)) * prefix_of l ≤ length s
   few k =
-      rw (nexts-reading k, zeros_front (λ m. telling (reading l s m) no_part) (suc k), ← handed-counted (suc k))
+      rw (nexts_reading k, zeros_front (λ m. telling (reading l s m) no_part) (suc k), ← handed_counted (suc k))
       (runs.few l s (suc k))

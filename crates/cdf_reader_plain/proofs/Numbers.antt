@@ -11,7 +11,7 @@ use Rattle.cdf_reader_spec.specs.declared.Call.{Call}
 use Rattle.cdf_reader_spec.specs.declared.Call.TheVariants.{Start, Next, Skip, GetStream, Previous}
 use Rattle.cdf_reader_plain.specs.Plain.{State, fresh_at, Turn, followers, hand_out, span_of, plain_answer}
 use Rattle.cdf_reader_plain.specs.Runs.{plain_from, plain_run, number_at}
-use Rattle.cdf_reader_plain.proofs.Equations.{pass, plain-none, plain-on, plain-is}
+use Rattle.cdf_reader_plain.proofs.Equations.{pass, plain_none, plain-on, plain_is}
 
 -- A number that is not one from 2 to 10.
 abbrev pub Apart : ℕ → Type 0
@@ -28,20 +28,20 @@ pass_apart may part st =
     of_cond (λ (t : Turn). Apart t.told.number) may _ _ (λ e h. absurd (omega arith)) (λ e h. omega arith)
 
 module _ (first : Ranked) (rest : List Ranked) where
-  answer-apart : (st : State) (c : Call) → Apart (plain_answer first rest st c).told.number
+  answer_apart : (st : State) (c : Call) → Apart (plain_answer first rest st c).told.number
   unfolding plain_answer
-  answer-apart st Start = λ h. absurd (omega arith)
-  answer-apart st Next = hand_apart st (followers (first ∷ rest) st)
-  answer-apart st Skip = pass_apart (st.fresh && opens st.unit.unit.id) no_part st
-  answer-apart st GetStream = pass_apart (st.fresh && is_group st.unit.unit.id) (span_of st.unit.unit) st
-  answer-apart st Previous = λ h. absurd (omega arith)
+  answer_apart st Start = λ h. absurd (omega arith)
+  answer_apart st Next = hand_apart st (followers (first ∷ rest) st)
+  answer_apart st Skip = pass_apart (st.fresh && opens st.unit.unit.id) no_part st
+  answer_apart st GetStream = pass_apart (st.fresh && is_group st.unit.unit.id) (span_of st.unit.unit) st
+  answer_apart st Previous = λ h. absurd (omega arith)
 
   -- So does each call of a run.
   from_apart : (cs : List Call) (st : State) (k : ℕ) → Apart (number_at k (plain_from first rest st cs))
-  from_apart [] st k = rw plain-none (λ h. absurd (omega arith))
-  from_apart (c ∷ cs) st zero = rw plain-on (answer-apart st c)
+  from_apart [] st k = rw plain_none (λ h. absurd (omega arith))
+  from_apart (c ∷ cs) st zero = rw plain-on (answer_apart st c)
   from_apart (c ∷ cs) st (suc k) = rw plain-on (from_apart cs (plain_answer first rest st c).state k)
 
-  pub run-apart : (cs : List Call) (k : ℕ) → Apart (number_at k (plain_run first rest cs))
-  run-apart cs zero = rw plain-is (λ h. absurd (omega arith))
-  run-apart cs (suc k) = rw plain-is (from_apart cs (fresh_at first rest) k)
+  pub run_apart : (cs : List Call) (k : ℕ) → Apart (number_at k (plain_run first rest cs))
+  run_apart cs zero = rw plain_is (λ h. absurd (omega arith))
+  run_apart cs (suc k) = rw plain_is (from_apart cs (fresh_at first rest) k)

@@ -15,16 +15,16 @@ use Rattle.cdf_unit_prefix.specs.Layout.{Layout}
 use Rattle.cdf_unit_list.specs.Stack.{close, Step, done, refused, found, with_state, step, step_by, step_in_by}
 use Rattle.cdf_unit_list.specs.declared.Unit.{Unit}
 use Rattle.cdf_unit_list.specs.declared.Open.{Open}
-use Rattle.cdf_unit_list.proofs.Stepping.{step-closes}
+use Rattle.cdf_unit_list.proofs.Stepping.{step_closes}
 use Rattle.cdf_reader_spec.specs.Place.{ReaderPlace, is_empty, every, is_state, at_last, fits}
 use Rattle.cdf_reader_spec.specs.Calls.{Reply, refuse, move_to, stepped, next_of, untouched, skipped_top, passed, passing, skip_of, is_group, take_of, part_of}
 use Rattle.cdf_reader_spec.specs.Calls.{empty_place, give, place_at, first_of, previous_of}
-use Rattle.cdf_reader_spec.proofs.Fitting.{fitting, fits-true}
-use Rattle.cdf_reader_spec.proofs.Opened.{kinds_states, chain-clauses}
-use Rattle.cdf_reader_spec.proofs.Replying.{start, first-is, next-tests, passing-tests, skip_is, take-is, part-is, previous-tests, next_is}
-use Rattle.cdf_reader_runs.proofs.Ranking.{low-later}
-use Rattle.cdf_reader_runs.proofs.Around.{Around, lies, position_in, with-state, fitting-held}
-use Rattle.cdf_reader_runs.proofs.Keeps.{Keeps, first-keeps, next-keeps}
+use Rattle.cdf_reader_spec.proofs.Fitting.{fitting, fits_true}
+use Rattle.cdf_reader_spec.proofs.Opened.{kinds_states, chain_clauses}
+use Rattle.cdf_reader_spec.proofs.Replying.{start, first_is, next_tests, passing_tests, skip_is, take_is, part_is, previous_tests, next_is}
+use Rattle.cdf_reader_runs.proofs.Ranking.{low_later}
+use Rattle.cdf_reader_runs.proofs.Around.{Around, lies, position_in, with_state_lem, fitting_held}
+use Rattle.cdf_reader_runs.proofs.Keeps.{Keeps, first_keeps, next_keeps}
 use Rattle.cdf_reader_plain.specs.Claims.{Fits, Again}
 
 -- The last unit ends where the innermost open one does, if it is that one.
@@ -53,7 +53,7 @@ module _ (l : Layout) (n : ℕ) where
       go : (os : List Open) → p.units ≡ os → at_last p.position os p.last ≡ true → Top p
       go [] q last = absurd (false≢true last)
       go (o ∷ os) q last =
-          let held : Around l n p.position (o ∷ os) = rw q at (fitting-held l n p e) in
+          let held : Around l n p.position (o ∷ os) = rw q at (fitting_held l n p e) in
           record {
             unit = o;
             around = os;
@@ -64,17 +64,17 @@ module _ (l : Layout) (n : ℕ) where
           }
 
   -- Past it the place fits.
-  pub passed-fits : (p : ReaderPlace) → fits l n p ≡ true → p.fresh ≡ true → fits l n (passed p) ≡ true
+  pub passed_fits : (p : ReaderPlace) → fits l n p ≡ true → p.fresh ≡ true → fits l n (passed p) ≡ true
   unfolding passed skipped_top with_state
-  passed-fits p e on =
+  passed_fits p e on =
       let f = fitting l n p e in
       let t = top p e on in
       let within = lies l p.position t.unit t.around t.held.position in
       let skip = skipped t.unit.state in
-      let chained = with-state l n t.unit t.around skip (skipped_unit t.unit.state) t.held.chained in
-      let w = chain-clauses l n (with_state t.unit skip ∷ t.around) chained in
+      let chained = with_state_lem l n t.unit t.around skip (skipped_unit t.unit.state) t.held.chained in
+      let w = chain_clauses l n (with_state t.unit skip ∷ t.around) chained in
       rw t.units
-      (fits-true l n (record {
+      (fits_true l n (record {
         position = p.last.end;
         units = with_state t.unit skip ∷ t.around;
         last = p.last;
@@ -95,7 +95,7 @@ module _ (l : Layout) (n : ℕ) where
         last = λ z. absurd (false≢true z);
         each = rw t.units at f.each;
         last_rank = omega (arith, f.last_rank, t.end);
-        ranks = low-later l p.position p.last.end (omega (arith, t.end)) p.ranks f.ranks;
+        ranks = low_later l p.position p.last.end (omega (arith, t.end)) p.ranks f.ranks;
       }))
 
 -- The flag is on where the last unit is untouched.
@@ -105,46 +105,46 @@ flag_on p e = (both p.fresh _ (both (not (is_empty p)) _ e).1).0
 
 module _ (l : Layout) (s : List ℕ) where
   -- If the number is 0, the place fits: so it is of what passes an untouched unit,
-  passing-fits : (p : ReaderPlace) (may : Bool) → (may ≡ true → untouched p ≡ true) → Fits l s (passing l s p may)
-  passing-fits p may only =
-      rw passing-tests
+  passing_fits : (p : ReaderPlace) (may : Bool) → (may ≡ true → untouched p ≡ true) → Fits l s (passing l s p may)
+  passing_fits p may only =
+      rw passing_tests
       (of_cond (Fits l s) (not may) (refuse 11 0 p) _ (λ e z. absurd (omega arith))
       (λ e. of_cond (Fits l s) (not (fits l (length s) p)) (refuse 2 0 p) (move_to (passed p)) (λ f z. absurd (omega arith))
-      (λ f z. passed-fits l (length s) p (not-false (fits l (length s) p) f) (flag_on p (only (not-false may e))))))
+      (λ f z. passed_fits l (length s) p (not-false (fits l (length s) p) f) (flag_on p (only (not-false may e))))))
 
   pub skip_fits : (p : ReaderPlace) → Fits l s (skip_of l s p)
-  skip_fits p = rw skip_is (passing-fits p (untouched p) (λ e. e))
+  skip_fits p = rw skip_is (passing_fits p (untouched p) (λ e. e))
 
   pub take_fits : (p : ReaderPlace) → Fits l s (take_of l s p)
-  take_fits p = rw take-is (passing-fits p (untouched p && is_group p.last.id) (λ e. (both (untouched p) _ e).0))
+  take_fits p = rw take_is (passing_fits p (untouched p && is_group p.last.id) (λ e. (both (untouched p) _ e).0))
 
   -- and of PREVIOUS, which tests it.
   pub previous_fits : (p : ReaderPlace) → Fits l s (previous_of l s p)
   previous_fits p =
-      rw previous-tests
+      rw previous_tests
       (of_cond (Fits l s) (is_empty p) (refuse 11 0 p) _ (λ e z. absurd (omega arith))
       (λ e. of_cond (Fits l s) (not (fits l (length s) p)) (refuse 2 0 p) _ (λ f z. absurd (omega arith))
       (λ f z. not-false (fits l (length s) p) f)))
 
   -- At a place that fits it gives the last unit,
-  pub previous-is : (p : ReaderPlace) → fits l (length s) p ≡ true → previous_of l s p ≡ give p
+  pub previous_is : (p : ReaderPlace) → fits l (length s) p ≡ true → previous_of l s p ≡ give p
   unfolding is_empty
-  previous-is p e = rw (previous-tests, ne_eqb (length p.units) 0 (λ z. omega (arith, (fitting l (length s) p e).some)), e)
+  previous_is p e = rw (previous_tests, ne_eqb (length p.units) 0 (λ z. omega (arith, (fitting l (length s) p e).some)), e)
 
   -- and so once more what a step gave.
-  stepped-again : (p : ReaderPlace) (x : Step) → Keeps l s p x → Again l s (stepped p x)
+  stepped_again : (p : ReaderPlace) (x : Step) → Keeps l s p x → Again l s (stepped p x)
   unfolding stepped
-  stepped-again p done k z = absurd (omega arith)
-  stepped-again p (refused n at) k z = absurd (k z)
-  stepped-again p (found u os pos) k z = previous-is (place_at p u os pos) k
+  stepped_again p done k z = absurd (omega arith)
+  stepped_again p (refused n at) k z = absurd (k z)
+  stepped_again p (found u os pos) k z = previous_is (place_at p u os pos) k
 
   pub again : (p : ReaderPlace) → Again l s (first_of l s) × Again l s (next_of l s p)
   again p = (
-    rw first-is (stepped-again empty_place (start l s) (first-keeps l s)),
-    rw next-tests
+    rw first_is (stepped_again empty_place (start l s) (first_keeps l s)),
+    rw next_tests
         (of_cond (Again l s) (is_empty p) (refuse 11 0 p) _ (λ e z. absurd (omega arith))
         (λ e. of_cond (Again l s) (not (fits l (length s) p)) (refuse 2 0 p) _ (λ f z. absurd (omega arith))
-        (λ f. stepped-again p (step l s p.units p.position) (next-keeps l s p (not-false (fits l (length s) p) f))))),
+        (λ f. stepped_again p (step l s p.units p.position) (next_keeps l s p (not-false (fits l (length s) p) f))))),
   )
 
   -- With no unit open a step is at the end.
@@ -153,17 +153,17 @@ module _ (l : Layout) (s : List ℕ) where
   none_open pos = refl
 
   -- Past the one open unit is the end.
-  passed-end : (p : ReaderPlace) (o : Open) → p.units ≡ o ∷ [] → fits l (length s) p ≡ true → p.fresh ≡ true →
+  passed_end : (p : ReaderPlace) (o : Open) → p.units ≡ o ∷ [] → fits l (length s) p ≡ true → p.fresh ≡ true →
       next_of l s (passed p) ≡ refuse 1 0 (passed p)
   unfolding passed skipped_top with_state stepped every
-  passed-end p o q f on =
+  passed_end p o q f on =
       let fit = fitting l (length s) p f in
       let end = last_end p.position o [] p.last (rw q at (fit.last on)) in
       let state = (both (is_state o.state) _ (rw q at fit.states)).0 in
       let stop = p.last.end in
       let skip = with_state o (skipped o.state) in
-      let at-end : step l s (skip ∷ []) stop ≡ done = rw (step-closes l s skip [] stop end, skipped_complete, state) (none_open stop) in
-      next_is l s (passed p) (passed-fits l (length s) p f on) ∙ rw (q, at-end)
+      let at_end_lem : step l s (skip ∷ []) stop ≡ done = rw (step_closes l s skip [] stop end, skipped_complete, state) (none_open stop) in
+      next_is l s (passed p) (passed_fits l (length s) p f on) ∙ rw (q, at_end_lem)
 
   -- If the number is 0, the end is next.
   abbrev Ended : Reply → Type 0
@@ -171,18 +171,18 @@ module _ (l : Layout) (s : List ℕ) where
 
   pub skipped_root : (p : ReaderPlace) (o : Open) → p.units ≡ o ∷ [] → Ended (skip_of l s p)
   skipped_root p o q =
-      rw (skip_is, passing-tests)
+      rw (skip_is, passing_tests)
       (of_cond Ended (not (untouched p)) (refuse 11 0 p) _ (λ e z. absurd (omega arith))
       (λ e. of_cond Ended (not (fits l (length s) p)) (refuse 2 0 p) (move_to (passed p)) (λ f z. absurd (omega arith))
-      (λ f z. passed-end p o q (not-false (fits l (length s) p) f) (flag_on p (not-false (untouched p) e)))))
+      (λ f z. passed_end p o q (not-false (fits l (length s) p) f) (flag_on p (not-false (untouched p) e)))))
 
 -- Other bytes, as many, are passed and taken alike.
 module _ (l : Layout) (s s' : List ℕ) (long : length s ≡ length s') (p : ReaderPlace) where
-  passing-blind : (may : Bool) → passing l s p may ≡ passing l s' p may
-  passing-blind may = rw (passing-tests l s p may, passing-tests l s' p may, long)
+  passing_blind : (may : Bool) → passing l s p may ≡ passing l s' p may
+  passing_blind may = rw (passing_tests l s p may, passing_tests l s' p may, long)
 
-  take-blind : take_of l s p ≡ take_of l s' p
-  take-blind = rw (take-is l s p, take-is l s' p) (passing-blind (untouched p && is_group p.last.id))
+  take_blind : take_of l s p ≡ take_of l s' p
+  take_blind = rw (take_is l s p, take_is l s' p) (passing_blind (untouched p && is_group p.last.id))
 
   pub skip_blind : (skip_of l s p ≡ skip_of l s' p) × (take_of l s p ≡ take_of l s' p) × (part_of l s p ≡ part_of l s' p)
-  skip_blind = (rw (skip_is l s p, skip_is l s' p) (passing-blind (untouched p)), take-blind, rw (part-is l s p, part-is l s' p, take-blind))
+  skip_blind = (rw (skip_is l s p, skip_is l s' p) (passing_blind (untouched p)), take_blind, rw (part_is l s p, part_is l s' p, take_blind))

@@ -11,7 +11,7 @@ use Rattle.cdf_grammar.specs.Trees.{Forest}
 use Rattle.cdf_grammar.specs.Encoding.{Stream}
 use Rattle.cdf_reader_plain.specs.Claims.{Reads, Claims}
 use Rattle.cdf_reader_plain.proofs.Passing.{skip_fits, take_fits, previous_fits, again, skipped_root, skip_blind}
-use Rattle.cdf_reader_plain.proofs.Numbers.{run-apart}
+use Rattle.cdf_reader_plain.proofs.Numbers.{run_apart}
 use Rattle.cdf_reader_plain.proofs.Streams.{Readable, readable}
 use Rattle.cdf_reader_plain.proofs.Reading.{answers, follows, ends, taken}
 use Rattle.cdf_reader_plain.proofs.Nexts.{nexts, few}
@@ -20,7 +20,7 @@ use Rattle.cdf_reader_plain.proofs.Nexts.{nexts, few}
 reads : (l : Layout) (s : List ℕ) → length s ≤ l.limit → (first : Ranked) (rest : List Ranked) → Readable l s first rest → Reads l s first rest
 reads l s short first rest r = record {
   answers = answers l s first rest r;
-  numbers = λ calls k. rw (answers l s first rest r calls) (run-apart first rest calls k);
+  numbers = λ calls k. rw (answers l s first rest r calls) (run_apart first rest calls k);
   follows = follows l s first rest r;
   ends = ends l s first rest r;
   taken = taken l s first rest r short;

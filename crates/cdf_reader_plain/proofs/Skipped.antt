@@ -20,9 +20,9 @@ use Rattle.cdf_unit_list.proofs.Nested.{reaching, Nested, narrow, still_reach}
 use Rattle.cdf_unit_list.proofs.StatesListed.{open_of, Before, before_later}
 use Rattle.cdf_unit_list.proofs.Closing.{Closes, stops, leaves, closes}
 use Rattle.cdf_unit_list.proofs.Entering.{Follow}
-use Rattle.cdf_unit_list.proofs.Stepping.{step-closes}
-use Rattle.cdf_unit_list.proofs.Agreement.{OfClosing, close-bounded, within-agrees}
-use Rattle.cdf_unit_list.proofs.Ranks.{Counted, CountedLeft, CountsOn, within-counts}
+use Rattle.cdf_unit_list.proofs.Stepping.{step_closes}
+use Rattle.cdf_unit_list.proofs.Agreement.{OfClosing, close_bounded, within_agrees}
+use Rattle.cdf_unit_list.proofs.Ranks.{Counted, CountedLeft, CountsOn, within_counts}
 use Rattle.cdf_grammar.proofs.Nesting.{Within}
 use Rattle.cdf_reader_spec.specs.Place.{ReaderPlace, is_state}
 use Rattle.cdf_reader_spec.specs.Closing.{unclosed_ranks}
@@ -50,21 +50,21 @@ module _ (u : Unit) (us : List Unit) (pos : ℕ) (past : u.start < pos) where
 
   module _ (parent : opens u.id ≡ true) where
     -- so that such a one has as many units directly in it as before.
-    inside-same : (at : ℕ) → at < u.start → (vs : List Unit) → Within pos u.end vs → inside at (listed vs) ≡ inside at (u ∷ us)
+    inside_same : (at : ℕ) → at < u.start → (vs : List Unit) → Within pos u.end vs → inside at (listed vs) ≡ inside at (u ∷ us)
     unfolding inside open_at
-    inside-same at h [] w = refl
-    inside-same at h (v ∷ vs) w =
+    inside_same at h [] w = refl
+    inside_same at h (v ∷ vs) w =
         let reaches = lt-ltb v.start u.end (omega (arith, w.0.nonempty, w.0.high)) in
-        rw (none_first (λ x. ltb v.start x.end) (rw (parent, reaches)) at h vs w.1) (inside-same at h vs w.1)
+        rw (none_first (λ x. ltb v.start x.end) (rw (parent, reaches)) at h vs w.1) (inside_same at h vs w.1)
 
     -- Those around u are as they were,
-    around-same : (vs : List Unit) → Within pos u.end vs → (ws : List Unit) (end : ℕ) → Nested u.start end ws →
+    around_same : (vs : List Unit) → Within pos u.end vs → (ws : List Unit) (end : ℕ) → Nested u.start end ws →
         map (open_of (listed vs)) ws ≡ map (open_of (u ∷ us)) ws
     unfolding state_of
-    around-same vs w [] end h = refl
-    around-same vs w (x ∷ ws) end h =
+    around_same vs w [] end h = refl
+    around_same vs w (x ∷ ws) end h =
         let rest = narrow ws x.start x.end u.start x.end (omega arith) (omega arith) h.2 in
-        rw (inside-same x.start h.0 vs w, around-same vs w ws x.end rest)
+        rw (inside_same x.start h.0 vs w, around_same vs w ws x.end rest)
 
     -- and so are their ranks and what is due in them.
     counted_same : (vs : List Unit) → Within pos u.end vs → (ws : List Unit) (end : ℕ) → Nested u.start end ws → (ks : List ℕ) (r : ℕ) →
@@ -73,18 +73,18 @@ module _ (u : Unit) (us : List Unit) (pos : ℕ) (past : u.start < pos) where
     counted_same vs w (x ∷ ws) end h [] r c = c
     counted_same vs w (x ∷ ws) end h (k ∷ ks) r c =
         let rest = narrow ws x.start x.end u.start x.end (omega arith) (omega arith) h.2 in
-        (rw (inside-same x.start h.0 vs w) c.0, counted_same vs w ws x.end rest ks (suc k) c.1)
+        (rw (inside_same x.start h.0 vs w) c.0, counted_same vs w ws x.end rest ks (suc k) c.1)
 
   -- At the end of u neither it nor a unit in it is open.
-  open-same : (vs : List Unit) → Within pos u.end vs → open_at u.end (listed vs) ≡ open_at u.end us
+  open_same : (vs : List Unit) → Within pos u.end vs → open_at u.end (listed vs) ≡ open_at u.end us
   unfolding open_at parents_that
-  open-same [] w = rw (le-ltb u.end u.end (omega arith), and-false)
-  open-same (v ∷ vs) w = rw (le-ltb u.end v.end w.0.high, and-false) (open-same vs w.1)
+  open_same [] w = rw (le-ltb u.end u.end (omega arith), and-false)
+  open_same (v ∷ vs) w = rw (le-ltb u.end v.end w.0.high, and-false) (open_same vs w.1)
 
   -- All of them start before it.
-  before-end : pos ≤ u.end → Before pos (u ∷ us) → (vs : List Unit) → Within pos u.end vs → Before u.end (listed vs)
-  before-end h b [] w = before_later (u ∷ us) pos u.end h b
-  before-end h b (v ∷ vs) w = (omega (arith, w.0.nonempty, w.0.high), before-end h b vs w.1)
+  before_end : pos ≤ u.end → Before pos (u ∷ us) → (vs : List Unit) → Within pos u.end vs → Before u.end (listed vs)
+  before_end h b [] w = before_later (u ∷ us) pos u.end h b
+  before_end h b (v ∷ vs) w = (omega (arith, w.0.nonempty, w.0.high), before_end h b vs w.1)
 
   -- So a step of what is around u, from its end, goes on as the list does.
   module _ (l : Layout) (s : List ℕ) (o : Open) (outer : List Open) (f : Follow (u ∷ us) (o ∷ outer) pos) (parent : opens u.id ≡ true)
@@ -93,21 +93,21 @@ module _ (u : Unit) (us : List Unit) (pos : ℕ) (past : u.start < pos) where
     unfolding parents_that
     reach = rw (parent, le-leb pos u.end h)
 
-    pub past-goes : (vs : List Unit) → Within pos u.end vs → (ks : List ℕ) (k : ℕ) → Counted (u ∷ us) outer ks (suc k) →
+    pub past_goes : (vs : List Unit) → Within pos u.end vs → (ks : List ℕ) (k : ℕ) → Counted (u ∷ us) outer ks (suc k) →
         Follows (listed vs) (step l s outer u.end)
         × CountsOn (listed vs) (unclosed_ranks outer ks u.end) (rank_after outer ks u.end (suc k)) (step l s outer u.end)
     unfolding step_by step_in_by
-    past-goes vs w ks k c =
+    past_goes vs w ks k c =
         let stack = rw reach at f.stack in
         let nested = rw reach at f.nested in
         let still = still_reach pos u.end h us u.start nested.2 in
         let is : outer ≡ map (open_of (u ∷ us)) (reaching pos us) = cc in
-        let same = around-same parent vs w (reaching pos us) u.end nested.2 in
+        let same = around_same parent vs w (reaching pos us) u.end nested.2 in
         let mine : outer ≡ map (open_of (listed vs)) (reaching u.end us) = rw (still, same) is in
         let counted = counted_same parent vs w (reaching pos us) u.end nested.2 ks (suc k) (rw is at c) in
         let due = close_counted (listed vs) outer ks (suc k) u.end (rw (← is) at counted) in
         let inner = narrow (reaching pos us) u.start u.end u.end u.end (omega arith) (omega arith) nested.2 in
-        let low = close-bounded l s outer u.end f.bounded.1 in
+        let low = close_bounded l s outer u.end f.bounded.1 in
         go (close outer u.end) (closes (listed vs) u.end us (rw still inner)) (rw mine) low due
       where
         go : {n : Next} {x : Closing} (c : Closing) → Closes (listed vs) u.end (open_at u.end us) n x → c ≡ x → OfClosing l s c →
@@ -116,11 +116,11 @@ module _ (u : Unit) (us : List Unit) (pos : ℕ) (past : u.start < pos) where
             × CountsOn (listed vs) (unclosed_ranks outer ks u.end) (rank_after outer ks u.end (suc k)) (step_in l s u.end c)
         go c stops e low due = rw e (record {}, record {})
         go c (leaves n) e low due =
-            let before = before-end h f.before vs w in
-            let same = open-same vs w in
+            let before = before_end h f.before vs w in
+            let same = open_same vs w in
             rw e (
-              agrees_follow (within-agrees l s (listed vs) u.end before (open_at u.end us) same n (rw e at low)),
-              within-counts l s (listed vs) u.end before (open_at u.end us) same n _ _ (rw e at due),
+              agrees_follow (within_agrees l s (listed vs) u.end before (open_at u.end us) same n (rw e at low)),
+              within_counts l s (listed vs) u.end before (open_at u.end us) same n _ _ (rw e at due),
             )
 
 -- A unit that is passed keeps its depth and its rank.
@@ -164,7 +164,7 @@ passed_closes l s p o outer units k ks ranks state stop end last =
     record {
       position = last;
       fresh = refl;
-      step = rw (units, last, step-closes l s skip outer stop end, skipped_complete, state);
+      step = rw (units, last, step_closes l s skip outer stop end, skipped_complete, state);
       ranks = rw (units, ranks, last, eq-eqb o.end stop end, skipped_complete, state);
       next = rw (units, ranks, last, eq-eqb o.end stop end, skipped_complete, state);
     }

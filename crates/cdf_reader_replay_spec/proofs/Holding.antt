@@ -11,7 +11,7 @@ use Rattle.cdf_reader_spec.specs.Place.{ReaderPlace}
 use Rattle.cdf_reader_spec.specs.Calls.{Reply, call_of}
 use Rattle.cdf_reader_spec.specs.declared.Call.{Call}
 use Rattle.cdf_reader_spec.specs.declared.Call.TheVariants.{Start, Next, Skip, GetStream, Previous}
-use Rattle.cdf_reader_spec.proofs.Replying.{start-named, next-named, skip-named, take-named, previous-named}
+use Rattle.cdf_reader_spec.proofs.Replying.{start_named, next_named, skip_named, take_named, previous_named}
 use Rattle.cdf_reader_cursor.specs.Outcomes.{cursor_place, outcome_reply}
 use Rattle.cdf_reader_cursor.specs.declared.Cursor.{Cursor}
 use Rattle.cdf_reader_cursor.specs.declared.Outcome.{Outcome}
@@ -24,30 +24,30 @@ use Rattle.cdf_reader_replay_spec.specs.Holding.{Held}
 
 -- A place that any call returns with 0 fits.
 returned : (l : Layout) (s : List ℕ) (v : ReaderPlace) (c : Call) → Fits l s (call_of l s v c)
-returned l s v Start = rw (start-named l s v) (runs.first_fits l s)
-returned l s v Next = rw (next-named l s v) (runs.next_fits l s v)
-returned l s v Skip = rw (skip-named l s v) (plain.skip_fits l s v)
-returned l s v GetStream = rw (take-named l s v) (plain.take_fits l s v)
-returned l s v Previous = rw (previous-named l s v) (plain.previous_fits l s v)
+returned l s v Start = rw (start_named l s v) (runs.first_fits l s)
+returned l s v Next = rw (next_named l s v) (runs.next_fits l s v)
+returned l s v Skip = rw (skip_named l s v) (plain.skip_fits l s v)
+returned l s v GetStream = rw (take_named l s v) (plain.take_fits l s v)
+returned l s v Previous = rw (previous_named l s v) (plain.previous_fits l s v)
 
 same_fits : (l : Layout) (s : List ℕ) (a b : Reply) → a ≡ b → Fits l s b → Fits l s a
 same_fits l s a b e f = rw e f
 
 module _ (s : List ℕ) (p : Cursor) (held : Held s p) where
   -- A call that has a use, but a start, has an open unit.
-  pub may-go : (c : Call) → Use p c ≡ true → ready p (layout_for s) s c ≡ true
-  may-go Start u = refl
-  may-go Next u = held (eqb-false p.count 0 (not-true _ u))
-  may-go Skip u = held (eqb-false p.count 0 (not-true _ (both _ _ u).0))
-  may-go GetStream u = held (eqb-false p.count 0 (not-true _ (both _ _ (both _ _ u).0).0))
-  may-go Previous u = held (eqb-false p.count 0 (not-true _ u))
+  pub may_go : (c : Call) → Use p c ≡ true → ready p (layout_for s) s c ≡ true
+  may_go Start u = refl
+  may_go Next u = held (eqb-false p.count 0 (not-true _ u))
+  may_go Skip u = held (eqb-false p.count 0 (not-true _ (both _ _ u).0))
+  may_go GetStream u = held (eqb-false p.count 0 (not-true _ (both _ _ (both _ _ u).0).0))
+  may_go Previous u = held (eqb-false p.count 0 (not-true _ u))
 
-  kept-held : (c : Call) → Held s (cursor_kept c p)
-  kept-held Start = λ some. absurd (some refl)
-  kept-held Next = held
-  kept-held Skip = held
-  kept-held GetStream = held
-  kept-held Previous = held
+  kept_held : (c : Call) → Held s (cursor_kept c p)
+  kept_held Start = λ some. absurd (some refl)
+  kept_held Next = held
+  kept_held Skip = held
+  kept_held GetStream = held
+  kept_held Previous = held
 
   -- What is promised of a call's answer, and that the loop may go on with it.
   pub goes_on : (c : Call) (r : Outcome) →
@@ -61,4 +61,4 @@ module _ (s : List ℕ) (p : Cursor) (held : Held s p) where
           let due = call_of (layout_for s) s (cursor_place p) c in
           let fit = same_fits (layout_for s) s (outcome_reply r) due w.0 (returned (layout_for s) s (cursor_place p) c) in
           λ some. fit (eqb-true r.number 0 e)
-      go false e = rw (w.1.0 (eqb-false r.number 0 e)) (kept-held c)
+      go false e = rw (w.1.0 (eqb-false r.number 0 e)) (kept_held c)

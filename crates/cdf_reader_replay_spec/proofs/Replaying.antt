@@ -19,7 +19,7 @@ use Rattle.cdf_reader_cursor.specs.declared.Cursor.{Cursor}
 use Rattle.cdf_reader_cursor.specs.declared.Outcome.{Outcome}
 use Rattle.cdf_reader_plain.specs.Calls.{Told}
 use Rattle.cdf_reader_plain.specs.Runs.{tells, reader_run}
-use Rattle.cdf_reader_plain.proofs.Equations.{telling, reader-none, reader-on}
+use Rattle.cdf_reader_plain.proofs.Equations.{telling, reader_none, reader_on}
 use Rattle.cdf_reader_numbers.specs.Taking.{part_by}
 use Rattle.cdf_reader_numbers.proofs.Calling.{taken_is}
 use Rattle.cdf_reader_replay_spec.specs.Replay.{known_code, call_by, calls_of, ran_of, entry_of, entries, log_after}
@@ -98,7 +98,7 @@ module _ (s codes log₀ : List ℕ) where
         let calls : calls_of (drop k codes) ≡ call_by code ∷ calls_of (drop (suc k) codes) =
         rw (drop-cons codes k 0 less) (calls_known code (drop (suc k) codes) known) in
         let next : ahead c k ≡ told ∷ ahead o.cursor (suc k) =
-        rw calls (reader-on (layout_for s) s (cursor_place c) (call_by code) (calls_of (drop (suc k) codes))
+        rw calls (reader_on (layout_for s) s (cursor_place c) (call_by code) (calls_of (drop (suc k) codes))
         ∙ ap (λ (r : Reply). told ∷ reader_run (layout_for s) s r.place (calls_of (drop (suc k) codes))) (sym w)) in
         let front = entries r.done in
         let size : length front ≡ at = omega (arith, length_entries r.done, r.count, r.eleven) in
@@ -133,11 +133,11 @@ module _ (s codes log₀ : List ℕ) where
     finished none =
         let all : ran_of s codes ≡ r.done =
         r.all ∙ ap (λ cs. r.done ++ reader_run (layout_for s) s (cursor_place c) cs) none
-        ∙ ap (λ ts. r.done ++ ts) (reader-none (layout_for s) s (cursor_place c)) ∙ append-nil r.done in
+        ∙ ap (λ ts. r.done ++ ts) (reader_none (layout_for s) s (cursor_place c)) ∙ append-nil r.done in
         (sym r.count ∙ ap length (sym all), r.is ∙ ap (λ ts. log_after ts log₀) (sym all))
 
-    pub ended-unknown : k < length codes → known_code (get_or codes k 0) ≡ false → calls_of (drop k codes) ≡ []
-    ended-unknown less e = rw (drop-cons codes k 0 less) (calls_unknown (get_or codes k 0) (drop (suc k) codes) e)
+    pub ended_unknown : k < length codes → known_code (get_or codes k 0) ≡ false → calls_of (drop k codes) ≡ []
+    ended_unknown less e = rw (drop-cons codes k 0 less) (calls_unknown (get_or codes k 0) (drop (suc k) codes) e)
 
-    pub ended-all : length codes ≤ k → calls_of (drop k codes) ≡ []
-    ended-all h = rw (drop_of_length-le codes h) calls_none
+    pub ended_all : length codes ≤ k → calls_of (drop k codes) ≡ []
+    ended_all h = rw (drop_of_length-le codes h) calls_none

@@ -21,9 +21,9 @@ use Rattle.cdf_reader_spec.specs.Closing.{unclosed_ranks}
 use Rattle.cdf_reader_spec.specs.Ranking.{next_rank}
 use Rattle.cdf_reader_spec.specs.Calls.{place_at}
 use Rattle.cdf_reader_spec.specs.Tests.{under, chain}
-use Rattle.cdf_reader_spec.proofs.Fitting.{Low, fitting, fits-true}
-use Rattle.cdf_reader_spec.proofs.Opened.{kinds_states, at_most_four, chain-clauses, clauses-chain}
-use Rattle.cdf_reader_runs.proofs.Ranking.{Ranked, low-later, low-on}
+use Rattle.cdf_reader_spec.proofs.Fitting.{Low, fitting, fits_true}
+use Rattle.cdf_reader_spec.proofs.Opened.{kinds_states, at_most_four, chain_clauses, clauses_chain}
+use Rattle.cdf_reader_runs.proofs.Ranking.{Ranked, low_later, low_on}
 
 module _ (l : Layout) where
   -- The position lies in the innermost unit, past its prefix: the test as a fact, and back.
@@ -64,17 +64,17 @@ module _ (l : Layout) (n : ℕ) where
         rest = w.1;
       }
 
-  pub chain-on : (o p : Open) (os : List Open) → Inside o p os → chain l n (o ∷ p ∷ os) ≡ true
+  pub chain_on : (o p : Open) (os : List Open) → Inside o p os → chain l n (o ∷ p ∷ os) ≡ true
   unfolding chain nested
-  chain-on o p os i =
+  chain_on o p os i =
       rw (i.kind, le-leb (p.start + prefix_of l) o.start i.start, le-leb o.end p.end i.end) i.rest
 
   -- They stay so as the innermost takes in a child, and stays the same unit.
-  pub with-state : (o : Open) (os : List Open) (state : ℕ) → unit_of state ≡ unit_of o.state → chain l n (o ∷ os) ≡ true →
+  pub with_state_lem : (o : Open) (os : List Open) (state : ℕ) → unit_of state ≡ unit_of o.state → chain l n (o ∷ os) ≡ true →
       chain l n (with_state o state ∷ os) ≡ true
   unfolding chain nested with_state
-  with-state o [] state stays e = rw stays e
-  with-state o (p ∷ os) state stays e = rw stays e
+  with_state_lem o [] state stays e = rw stays e
+  with_state_lem o (p ∷ os) state stays e = rw stays e
 
   -- Those that closing leaves, if it leaves any, are around the position.
   abbrev pub Held : ℕ → List Open → Type 0
@@ -93,13 +93,13 @@ module _ (l : Layout) (n : ℕ) where
       let w = lies l pos o (p ∷ os) a.position in
       record { chained = i.rest; position = position_in l pos p os (omega arith) (omega arith) }
 
-  pub close-held : (pos : ℕ) (os : List Open) → Held pos os → OfClosing pos (close os pos)
+  pub close_held : (pos : ℕ) (os : List Open) → Held pos os → OfClosing pos (close os pos)
   unfolding close
-  close-held pos [] h = record {}
-  close-held pos (o ∷ os) h =
+  close_held pos [] h = record {}
+  close_held pos (o ∷ os) h =
       of_cond (OfClosing pos) (eqb o.end pos) _ (left (o ∷ os))
       (λ e. of_cond (OfClosing pos) (complete o.state) (close os pos) (incomplete o.start)
-      (λ c. close-held pos os (outside pos o os (eqb-true o.end pos e) h)) (λ c. record {}))
+      (λ c. close_held pos os (outside pos o os (eqb-true o.end pos e) h)) (λ c. record {}))
       (λ e. h)
 
   -- An empty list of them is no matter.
@@ -108,11 +108,11 @@ module _ (l : Layout) (n : ℕ) where
   held pos (o ∷ os) a = a
 
   -- A place that fits has them around its position.
-  pub fitting-held : (p : ReaderPlace) → fits l n p ≡ true → Held p.position p.units
-  fitting-held p e =
+  pub fitting_held : (p : ReaderPlace) → fits l n p ≡ true → Held p.position p.units
+  fitting_held p e =
       let f = fitting l n p e in
       held p.position p.units
-      (record { chained = clauses-chain l n p.units f.kinds f.starts f.ends; position = f.position })
+      (record { chained = clauses_chain l n p.units f.kinds f.starts f.ends; position = f.position })
 
   -- There is one at least.
   some : (os : List Open) → chain l n os ≡ true → 1 ≤ length os
@@ -129,12 +129,12 @@ module _ (l : Layout) (n : ℕ) where
     pub leaf : opens u.id ≡ false → Around u.end os
 
   -- A place fits that has such a unit as its last, with units open around its position and ranks that are low.
-  fits-around : (p : ReaderPlace) {os : List Open} → Enters p.last os → Around p.position p.units →
+  fits_around : (p : ReaderPlace) {os : List Open} → Enters p.last os → Around p.position p.units →
       (p.fresh ≡ true → at_last p.position p.units p.last ≡ true) → length p.ranks ≡ length p.units →
       p.last_rank * prefix_of l ≤ p.position → Low l p.position p.ranks → fits l n p ≡ true
-  fits-around p e a last each last_rank ranks =
-      let w = chain-clauses l n p.units a.chained in
-      fits-true l n p (record {
+  fits_around p e a last each last_rank ranks =
+      let w = chain_clauses l n p.units a.chained in
+      fits_true l n p (record {
         some = some p.units a.chained;
         five = omega (arith, at_most_four p.units w.0);
         kinds = w.0;
@@ -152,9 +152,9 @@ module _ (l : Layout) (n : ℕ) where
       })
 
   -- A unit that was just entered is the last one, as the clause on the flag asks.
-  fresh-last : (u : Unit) (os : List Open) → opens u.id ≡ true → at_last u.own (fresh u ∷ os) u ≡ true
+  fresh_last : (u : Unit) (os : List Open) → opens u.id ≡ true → at_last u.own (fresh u ∷ os) u ≡ true
   unfolding at_last
-  fresh-last u os e =
+  fresh_last u os e =
       let own = (opens_lower u.id e).own in
       rw (
         own,
@@ -166,10 +166,10 @@ module _ (l : Layout) (n : ℕ) where
       )
 
   -- After a unit that is entered from a place whose ranks are low the place fits.
-  pub enters-fit : (p : ReaderPlace) (u : Unit) (os : List Open) → Enters u os → Ranked l p u.start os →
+  pub enters_fit : (p : ReaderPlace) (u : Unit) (os : List Open) → Enters u os → Ranked l p u.start os →
       fits l n (place_at p u (opened u os) (after u)) ≡ true
   unfolding opened after
-  enters-fit p u os e r = go (opens u.id) refl
+  enters_fit p u os e r = go (opens u.id) refl
     where
       left : List ℕ
       left = unclosed_ranks p.units p.ranks p.position
@@ -188,8 +188,8 @@ module _ (l : Layout) (n : ℕ) where
             chained = e.parent x;
             position = position_in l u.own (fresh u) os e.own e.end;
           } in
-          fits-around _ e a (λ _. fresh-last u os x) (ap suc r.each) (omega (arith, r.next, e.own))
-          (low-on l u.own (next_rank p) left (omega (arith, r.next, e.own)) (low-later l u.start u.own (omega (arith, e.own)) left r.low))
+          fits_around _ e a (λ _. fresh_last u os x) (ap suc r.each) (omega (arith, r.next, e.own))
+          (low_on l u.own (next_rank p) left (omega (arith, r.next, e.own)) (low_later l u.start u.own (omega (arith, e.own)) left r.low))
       go false x =
-          fits-around _ e (e.leaf x) (λ z. absurd (false≢true z)) r.each (omega (arith, r.next, e.own, e.end))
-          (low-later l u.start u.end (omega (arith, e.own, e.end)) left r.low)
+          fits_around _ e (e.leaf x) (λ z. absurd (false≢true z)) r.each (omega (arith, r.next, e.own, e.end))
+          (low_later l u.start u.end (omega (arith, e.own, e.end)) left r.low)

@@ -17,18 +17,18 @@ use Rattle.cdf_unit_list.proofs.Proved.{proved}
 use Rattle.cdf_reader_spec.specs.Place.{ReaderPlace, fits}
 use Rattle.cdf_reader_spec.specs.Calls.{Reply, stepped, first_of, next_of}
 use Rattle.cdf_reader_runs.specs.Runs.{afterwards}
-use Rattle.cdf_reader_runs.proofs.Looping.{Stops, at-end, at-fault}
+use Rattle.cdf_reader_runs.proofs.Looping.{Stops, at_end_lem, at_fault}
 use Rattle.cdf_reader_runs.proofs.Looping as loop
-use Rattle.cdf_reader_runs.proofs.Readings.{check-is}
+use Rattle.cdf_reader_runs.proofs.Readings.{check_is}
 
 -- The number and the offset of the step that ends the list.
 module _ (l : Layout) (s : List ℕ) where
-  ends-number : {x : Step} {e : End} → Stops l s x e → (listing l s).end ≡ e → (p : ReaderPlace) →
+  ends_number : {x : Step} {e : End} → Stops l s x e → (listing l s).end ≡ e → (p : ReaderPlace) →
       ((stepped p x).number ≡ (afterwards (check_of l s)).number) × ((stepped p x).offset ≡ (afterwards (check_of l s)).offset)
   unfolding stepped afterwards answer_of
-  ends-number at-end q p = (rw (check-is l s, q), rw (check-is l s, q))
-  ends-number (at-fault {n} {at}) q p =
-      let some = ne_eqb n 0 (λ z. omega (arith, proved.numbered l s q)) in (rw (check-is l s, q, some), rw (check-is l s, q, some))
+  ends_number at_end_lem q p = (rw (check_is l s, q), rw (check_is l s, q))
+  ends_number (at_fault {n} {at}) q p =
+      let some = ne_eqb n 0 (λ z. omega (arith, proved.numbered l s q)) in (rw (check_is l s, q, some), rw (check_is l s, q, some))
 
 -- A fold of the units alone looks at no depth and no rank.
 pub unranked : {A : Type 0} (fold : A → Unit → A) (h : A) (us vs : List Unit) →
@@ -43,10 +43,10 @@ module _ {A : Type 0} (fold : A → Ranked → A) (l : Layout) (s : List ℕ) (n
   gathered [] = none
   gathered (u ∷ us) = fold (gathered us) (standing us u)
 
-  gather-on : (before us : List Unit) → foldl fold none (ranked [] (reverse_aux before us)) ≡ foldl fold (gathered before) (ranked before us)
+  gather_on : (before us : List Unit) → foldl fold none (ranked [] (reverse_aux before us)) ≡ foldl fold (gathered before) (ranked before us)
   unfolding ranked
-  gather-on [] us = refl
-  gather-on (u ∷ before) us = gather-on before (u ∷ us)
+  gather_on [] us = refl
+  gather_on (u ∷ before) us = gather_on before (u ∷ us)
 
   -- The answer in hand, and the fold of the units before it.
   pub record Going (a : Reply) (h : A) : Type 0 where
@@ -90,5 +90,5 @@ module _ {A : Type 0} (fold : A → Ranked → A) (l : Layout) (s : List ℕ) (n
   unfolding ranked_units ranked
   over a h g some =
       let o = loop.over l s g.before a g.going some in
-      let end = rw (← o.is) at (ends-number l s o.stops refl o.place) in
-      record { all = rw (o.all, g.has) (gather-on g.before []); number = end.0; offset = end.1 }
+      let end = rw (← o.is) at (ends_number l s o.stops refl o.place) in
+      record { all = rw (o.all, g.has) (gather_on g.before []); number = end.0; offset = end.1 }

@@ -10,34 +10,34 @@ use lib.ListN.{length}
 use Rattle.cdf_unit_table.proofs.Bools.{of_cond}
 use Rattle.cdf_unit_prefix.specs.Layout.{Layout}
 use Rattle.cdf_unit_list.specs.Stack.{Step, done, refused, found, step}
-use Rattle.cdf_unit_list.proofs.Few.{Further, step-further, unit-further}
+use Rattle.cdf_unit_list.proofs.Few.{Further, step_further, unit_further}
 use Rattle.cdf_reader_spec.specs.Place.{ReaderPlace, is_empty, fits}
 use Rattle.cdf_reader_spec.specs.Calls.{Reply, empty_place, refuse, stepped, first_of, next_of}
-use Rattle.cdf_reader_spec.proofs.Replying.{start, first-is, next-tests}
-use Rattle.cdf_reader_runs.proofs.Keeps.{Keeps, first-keeps, next-keeps}
+use Rattle.cdf_reader_spec.proofs.Replying.{start, first_is, next_tests}
+use Rattle.cdf_reader_runs.proofs.Keeps.{Keeps, first_keeps, next_keeps}
 
 module _ (l : Layout) (s : List ℕ) where
   -- If the number is 0, the new position is past the old one and in the bytes.
   abbrev Later : ℕ → Reply → Type 0
   Later pos r = r.number ≡ 0 → (pos < r.place.position) × (r.place.position ≤ length s)
 
-  stepped-later : (pos : ℕ) (p : ReaderPlace) (x : Step) → Further l s pos x → Keeps l s p x → Later pos (stepped p x)
+  stepped_later : (pos : ℕ) (p : ReaderPlace) (x : Step) → Further l s pos x → Keeps l s p x → Later pos (stepped p x)
   unfolding stepped
-  stepped-later pos p done f k e = absurd (omega arith)
-  stepped-later pos p (refused n at) f k e = absurd (k e)
-  stepped-later pos p (found u os later) f k e = omega arith
+  stepped_later pos p done f k e = absurd (omega arith)
+  stepped_later pos p (refused n at) f k e = absurd (k e)
+  stepped_later pos p (found u os later) f k e = omega arith
 
-  pub first-later : Later 0 (first_of l s)
-  first-later =
-      rw first-is (stepped-later 0 empty_place (start l s) (unit-further l s 0 true 0 s (λ state. []) (omega arith)) (first-keeps l s))
+  pub first_later : Later 0 (first_of l s)
+  first_later =
+      rw first_is (stepped_later 0 empty_place (start l s) (unit_further l s 0 true 0 s (λ state. []) (omega arith)) (first_keeps l s))
 
-  pub next-later : (p : ReaderPlace) → Later p.position (next_of l s p)
-  next-later p =
-      rw next-tests
+  pub next_later : (p : ReaderPlace) → Later p.position (next_of l s p)
+  next_later p =
+      rw next_tests
       (of_cond (Later p.position) (is_empty p) (refuse 11 0 p) _ (λ e z. absurd (omega arith))
       (λ e. of_cond (Later p.position) (not (fits l (length s) p)) (refuse 2 0 p) _ (λ f z. absurd (omega arith))
-      (λ f. stepped-later p.position p (step l s p.units p.position) (step-further l s p.position p.units)
-      (next-keeps l s p (not-false (fits l (length s) p) f)))))
+      (λ f. stepped_later p.position p (step l s p.units p.position) (step_further l s p.position p.units)
+      (next_keeps l s p (not-false (fits l (length s) p) f)))))
 
   -- What is left of a run after an answer.
   abbrev pub ahead : ℕ → ℕ → ℕ

@@ -19,11 +19,11 @@ use Rattle.cdf_unit_list.proofs.Low.{ranked_units_lem}
 use Rattle.cdf_unit_list.proofs.Proved.{proved}
 use Rattle.cdf_reader_spec.specs.Calls.{Reply, empty_place, no_ranked, stepped}
 use Rattle.cdf_reader_runs.specs.Runs.{reading, Outcome, outcome, afterwards, due, handed_out}
-use Rattle.cdf_reader_runs.proofs.Keeps.{Keeps, first-keeps}
-use Rattle.cdf_reader_spec.proofs.Replying.{first-is}
-use Rattle.cdf_reader_runs.proofs.Replies.{next-empty}
+use Rattle.cdf_reader_runs.proofs.Keeps.{Keeps, first_keeps}
+use Rattle.cdf_reader_spec.proofs.Replying.{first_is}
+use Rattle.cdf_reader_runs.proofs.Replies.{next_empty}
 use Rattle.cdf_reader_runs.proofs.Steps.{Run, ends, breaks, hands, listed}
-use Rattle.cdf_reader_runs.proofs.Readings.{reading-first, reading-next, reads}
+use Rattle.cdf_reader_runs.proofs.Readings.{reading_first, reading_next, reads}
 
 -- Past the last unit the number is not 0.
 afterwards_none : (a : Verdict) → (afterwards a).number ≡ 0 → ⊥
@@ -49,22 +49,22 @@ module _ (l : Layout) (s : List ℕ) where
     number : r.number ≡ 0 → ⊥
     place : r.place ≡ empty_place
 
-  start-refused : {x : Step} {us : List Unit} {e : End} → Run l s x us e → us ≡ [] → Keeps l s empty_place x → Refused (stepped empty_place x)
+  start_refused : {x : Step} {us : List Unit} {e : End} → Run l s x us e → us ≡ [] → Keeps l s empty_place x → Refused (stepped empty_place x)
   unfolding stepped
-  start-refused ends none keeps = record { number = λ z. omega arith; place = refl }
-  start-refused breaks none keeps = record { number = keeps; place = refl }
-  start-refused (hands run) none keeps = clash cc
+  start_refused ends none keeps = record { number = λ z. omega arith; place = refl }
+  start_refused breaks none keeps = record { number = keeps; place = refl }
+  start_refused (hands run) none keeps = clash cc
 
-  all-refused : (listing l s).units ≡ [] → (k : ℕ) → Refused (reading l s k)
-  all-refused none zero = rw (reading-first l s, first-is l s) (start-refused (listed l s) none (first-keeps l s))
-  all-refused none (suc k) =
-      rw (reading-next l s k, (all-refused none k).place, next-empty l s) (record { number = λ z. omega arith; place = refl })
+  all_refused : (listing l s).units ≡ [] → (k : ℕ) → Refused (reading l s k)
+  all_refused none zero = rw (reading_first l s, first_is l s) (start_refused (listed l s) none (first_keeps l s))
+  all_refused none (suc k) =
+      rw (reading_next l s k, (all_refused none k).place, next_empty l s) (record { number = λ z. omega arith; place = refl })
 
   -- Only the first answers hand out a unit, as many as are listed.
-  zero-below : (us : List Unit) → (listing l s).units ≡ us → (k : ℕ) → (reading l s k).number ≡ 0 → k < length us
+  zero_below : (us : List Unit) → (listing l s).units ≡ us → (k : ℕ) → (reading l s k).number ≡ 0 → k < length us
   unfolding outcome ranked_units
-  zero-below [] e k z = absurd ((all-refused e k).number z)
-  zero-below (u ∷ us) e k z =
+  zero_below [] e k z = absurd ((all_refused e k).number z)
+  zero_below (u ∷ us) e k z =
       let r = reads l s (λ none. clash cc) k in
       let below = due_zero (afterwards (check_of l s)) (afterwards_none (check_of l s)) (ranked_units l s) k (sym (ap (λ t. t.number) r) ∙ z) in
       omega (arith, length_ranked [] (listing l s).units, ap length e)
@@ -81,5 +81,5 @@ module _ (l : Layout) (s : List ℕ) where
   -- Each listed unit takes a prefix.
   pub few : (k : ℕ) → handed_out l s k * prefix_of l ≤ length s
   few k =
-      let h = handed (length (listing l s).units) (zero-below (listing l s).units refl) k in
+      let h = handed (length (listing l s).units) (zero_below (listing l s).units refl) k in
       omega (arith, mul-le-mul_right (prefix_of l) h.1, proved.few l s)

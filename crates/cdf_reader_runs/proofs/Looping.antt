@@ -14,17 +14,17 @@ use Rattle.cdf_unit_list.specs.Stack.{Step, done, refused, found, step}
 use Rattle.cdf_unit_list.specs.declared.Unit.{Unit}
 use Rattle.cdf_unit_list.specs.declared.Open.{Open}
 use Rattle.cdf_unit_list.proofs.Entering.{Follow}
-use Rattle.cdf_unit_list.proofs.Ranks.{Counted, Counts, CountsOn, first-counts, next-counts}
-use Rattle.cdf_unit_list.proofs.Agreement.{Agrees, both_end, both_refuse, both_list, first-agrees, next-agrees}
+use Rattle.cdf_unit_list.proofs.Ranks.{Counted, Counts, CountsOn, first_counts, next_counts}
+use Rattle.cdf_unit_list.proofs.Agreement.{Agrees, both_end, both_refuse, both_list, first_agrees, next_agrees}
 use Rattle.cdf_reader_spec.specs.Place.{ReaderPlace, fits}
 use Rattle.cdf_reader_spec.specs.Closing.{unclosed_ranks}
 use Rattle.cdf_reader_spec.specs.Ranking.{innermost_at, next_rank, handed_at}
 use Rattle.cdf_reader_spec.specs.Calls.{Reply, empty_place, place_at, stepped, first_of, next_of}
 use Rattle.cdf_reader_spec.proofs.Fitting.{fitting}
 use Rattle.cdf_reader_spec.proofs.Opened.{at_most_four}
-use Rattle.cdf_reader_spec.proofs.Replying.{start, first-is, next_is}
+use Rattle.cdf_reader_spec.proofs.Replying.{start, first_is, next_is}
 use Rattle.cdf_reader_runs.proofs.Ranking.{close_counted}
-use Rattle.cdf_reader_runs.proofs.Keeps.{Keeps, first-keeps, next-keeps}
+use Rattle.cdf_reader_runs.proofs.Keeps.{Keeps, first_keeps, next_keeps}
 use Rattle.cdf_reader_runs.proofs.Steps.{Run, ends, breaks, hands, listed}
 
 -- After a step that finds a unit, the stack follows the list with that unit.
@@ -69,16 +69,16 @@ module _ (l : Layout) (s : List ℕ) where
   Stands (u ∷ us) p x = Behind u us p × (x ≡ step l s p.units p.position)
 
   follows : (us : List Unit) (p : ReaderPlace) (x : Step) → Stands us p x → Follows us x
-  follows [] p x h = rw h.1 (agrees_follow (first-agrees l s true 0))
-  follows (u ∷ us) p x h = rw h.1 (agrees_follow (next-agrees l s (u ∷ us) p.units p.position h.0.follow))
+  follows [] p x h = rw h.1 (agrees_follow (first_agrees l s true 0))
+  follows (u ∷ us) p x h = rw h.1 (agrees_follow (next_agrees l s (u ∷ us) p.units p.position h.0.follow))
 
   counts : (us : List Unit) (p : ReaderPlace) (x : Step) → Stands us p x → CountsOn us (ranks_left p) (next_rank p) x
   unfolding unclosed_ranks next_rank
-  counts [] p x h = rw (h.0, h.1) (first-counts l s)
+  counts [] p x h = rw (h.0, h.1) (first_counts l s)
   counts (u ∷ us) p x h =
       let b = h.0 in
       rw h.1
-      (next-counts l s (u ∷ us) p.units p.position b.follow _ _
+      (next_counts l s (u ∷ us) p.units p.position b.follow _ _
       (close_counted (u ∷ us) p.units p.ranks (rank_due p) p.position b.counted))
 
   -- So a step goes on as the list does, in its units and their ranks,
@@ -95,14 +95,14 @@ module _ (l : Layout) (s : List ℕ) where
       let r = counts_place us p u os pos g.1 in
       record { position = g.0.0; follow = g.0.1; fit = k; handed = r.0; counted = r.1 }
 
-  pub stands-next : (us : List Unit) (p : ReaderPlace) (u : Unit) (os : List Open) (pos : ℕ) → Stands us p (found u os pos) →
+  pub stands_next : (us : List Unit) (p : ReaderPlace) (u : Unit) (os : List Open) (pos : ℕ) → Stands us p (found u os pos) →
       Keeps l s p (found u os pos) → Stands (u ∷ us) (place_at p u os pos) (step l s os pos)
-  stands-next us p u os pos h k = (leads us p u os pos (goes us p (found u os pos) h) k, refl)
+  stands_next us p u os pos h k = (leads us p u os pos (goes us p (found u os pos) h) k, refl)
 
   -- How a step that finds none ends the list.
   pub data Stops : Step → End → Type 0 where
-    at-end : Stops done ended
-    at-fault : {n at : ℕ} → Stops (refused n at) (fault n at)
+    at_end_lem : Stops done ended
+    at_fault : {n at : ℕ} → Stops (refused n at) (fault n at)
 
   -- The answer in hand is that of the step that follows the units before.
   pub record Going (before : List Unit) (a : Reply) : Type 0 where
@@ -120,9 +120,9 @@ module _ (l : Layout) (s : List ℕ) where
     place = empty_place;
     taken = start l s;
     units = (listing l s).units;
-    is = e ∙ first-is l s;
+    is = e ∙ first_is l s;
     run = listed l s;
-    keeps = first-keeps l s;
+    keeps = first_keeps l s;
     stands = (refl, refl);
     all = refl;
   }
@@ -141,15 +141,15 @@ module _ (l : Layout) (s : List ℕ) where
     pub stands : Stands before place (found a.handed.unit a.place.units a.place.position)
     pub next : Going (a.handed.unit ∷ before) (next_of l s a.place)
 
-  turn-from : {x : Step} {us : List Unit} {e : End} → Run l s x us e → e ≡ (listing l s).end → (before : List Unit)
+  turn_from : {x : Step} {us : List Unit} {e : End} → Run l s x us e → e ≡ (listing l s).end → (before : List Unit)
       (p : ReaderPlace) → Keeps l s p x → Stands before p x → (listing l s).units ≡ reverse_aux before us → (stepped p x).number ≡ 0 → Turn before (stepped p x)
   unfolding stepped
-  turn-from ends q before p k h all z = absurd (omega arith)
-  turn-from breaks q before p k h all z = absurd (k z)
-  turn-from (hands {u = u} {os = os} {pos = pos} {us = us} run) q before p k h all z =
+  turn_from ends q before p k h all z = absurd (omega arith)
+  turn_from breaks q before p k h all z = absurd (k z)
+  turn_from (hands {u = u} {os = os} {pos = pos} {us = us} run) q before p k h all z =
       let next = place_at p u os pos in
       let fit = fitting l (length s) next k in
-      let on = stands-next before p u os pos h k in
+      let on = stands_next before p u os pos h k in
       record {
         own = fit.own;
         end = fit.end;
@@ -166,14 +166,14 @@ module _ (l : Layout) (s : List ℕ) where
           units = us;
           is = next_is l s next k;
           run = rw (← q) run;
-          keeps = next-keeps l s next k;
+          keeps = next_keeps l s next k;
           stands = on;
           all = all;
         };
       }
 
   pub turned : (before : List Unit) (a : Reply) → Going before a → a.number ≡ 0 → Turn before a
-  turned before a g z = rw g.is (turn-from g.run refl before g.place g.keeps g.stands g.all (rw (← g.is) z))
+  turned before a g z = rw g.is (turn_from g.run refl before g.place g.keeps g.stands g.all (rw (← g.is) z))
 
   -- No unit was handed out: those before are all, and the step ends the list.
   pub record Over (before : List Unit) (a : Reply) : Type 0 where
@@ -184,14 +184,14 @@ module _ (l : Layout) (s : List ℕ) where
     pub stops : Stops taken (listing l s).end
     pub all : (listing l s).units ≡ reverse before
 
-  over-from : {x : Step} {us : List Unit} {e : End} → Run l s x us e → e ≡ (listing l s).end → (before : List Unit) (p : ReaderPlace) →
+  over_from : {x : Step} {us : List Unit} {e : End} → Run l s x us e → e ≡ (listing l s).end → (before : List Unit) (p : ReaderPlace) →
       Stands before p x → (listing l s).units ≡ reverse_aux before us → ((stepped p x).number ≡ 0 → ⊥) → Over before (stepped p x)
   unfolding stepped
-  over-from ends q before p h all some =
-      record { place = p; taken = done; is = refl; stands = h; stops = rw (← q) at-end; all = all }
-  over-from (breaks {n} {at}) q before p h all some =
-      record { place = p; taken = refused n at; is = refl; stands = h; stops = rw (← q) at-fault; all = all }
-  over-from (hands run) q before p h all some = absurd (some refl)
+  over_from ends q before p h all some =
+      record { place = p; taken = done; is = refl; stands = h; stops = rw (← q) at_end_lem; all = all }
+  over_from (breaks {n} {at}) q before p h all some =
+      record { place = p; taken = refused n at; is = refl; stands = h; stops = rw (← q) at_fault; all = all }
+  over_from (hands run) q before p h all some = absurd (some refl)
 
   pub over : (before : List Unit) (a : Reply) → Going before a → (a.number ≡ 0 → ⊥) → Over before a
-  over before a g some = rw g.is (over-from g.run refl before g.place g.stands g.all (rw (← g.is) some))
+  over before a g some = rw g.is (over_from g.run refl before g.place g.stands g.all (rw (← g.is) some))

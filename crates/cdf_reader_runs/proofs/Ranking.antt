@@ -50,16 +50,16 @@ close_counted us (o ∷ os) (k ∷ ks) r pos c = go (eqb o.end pos) (complete o.
     go false b more = c
 
 module _ (l : Layout) where
-  pub low-later : (pos later : ℕ) → pos ≤ later → (ks : List ℕ) → Low l pos ks → Low l later ks
+  pub low_later : (pos later : ℕ) → pos ≤ later → (ks : List ℕ) → Low l pos ks → Low l later ks
   unfolding every
-  low-later pos later h [] e = refl
-  low-later pos later h (k ∷ ks) e =
+  low_later pos later h [] e = refl
+  low_later pos later h (k ∷ ks) e =
       let w = both (leb (k * prefix_of l) pos) _ e in
-      rw (le-leb (k * prefix_of l) later (omega (arith, leb-true (k * prefix_of l) pos w.0))) (low-later pos later h ks w.1)
+      rw (le-leb (k * prefix_of l) later (omega (arith, leb-true (k * prefix_of l) pos w.0))) (low_later pos later h ks w.1)
 
-  pub low-on : (pos k : ℕ) (ks : List ℕ) → k * prefix_of l ≤ pos → Low l pos ks → Low l pos (k ∷ ks)
+  pub low_on : (pos k : ℕ) (ks : List ℕ) → k * prefix_of l ≤ pos → Low l pos ks → Low l pos (k ∷ ks)
   unfolding every
-  low-on pos k ks h low = rw (le-leb (k * prefix_of l) pos h) low
+  low_on pos k ks h low = rw (le-leb (k * prefix_of l) pos h) low
 
   -- Ranks for these open units.
   record Each (pos : ℕ) (os : List Open) (ks : List ℕ) : Type 0 where
@@ -67,11 +67,11 @@ module _ (l : Layout) where
     low : Low l pos ks
 
   -- Closing keeps them.
-  unclosed-each : (pos : ℕ) (os : List Open) (ks : List ℕ) → Each pos os ks → Each pos (unclosed os pos) (unclosed_ranks os ks pos)
+  unclosed_each : (pos : ℕ) (os : List Open) (ks : List ℕ) → Each pos os ks → Each pos (unclosed os pos) (unclosed_ranks os ks pos)
   unfolding unclosed unclosed_ranks every
-  unclosed-each pos [] ks a = record { each = refl; low = refl }
-  unclosed-each pos (o ∷ os) [] a = absurd (omega (arith, a.each))
-  unclosed-each pos (o ∷ os) (k ∷ ks) a = go (closes pos o) (unclosed-each pos os ks)
+  unclosed_each pos [] ks a = record { each = refl; low = refl }
+  unclosed_each pos (o ∷ os) [] a = absurd (omega (arith, a.each))
+  unclosed_each pos (o ∷ os) (k ∷ ks) a = go (closes pos o) (unclosed_each pos os ks)
     where
       go : (c : Bool) → (Each pos os ks → Each pos (unclosed os pos) (unclosed_ranks os ks pos)) →
           Each pos (cond c (unclosed os pos) (o ∷ os)) (cond c (unclosed_ranks os ks pos) (k ∷ ks))
@@ -85,14 +85,14 @@ module _ (l : Layout) where
     pub next : next_rank p * prefix_of l ≤ pos + prefix_of l
 
   -- From the empty place there is none, and the first unit ranks first.
-  pub empty-ranked : Ranked empty_place 0 []
+  pub empty_ranked : Ranked empty_place 0 []
   unfolding unclosed_ranks next_rank every
-  empty-ranked = record { each = refl; low = refl; next = omega arith }
+  empty_ranked = record { each = refl; low = refl; next = omega arith }
 
   -- A place that fits has its ranks.
-  pub fitting-ranked : (n : ℕ) (p : ReaderPlace) → fits l n p ≡ true → (ws : List Open) → close p.units p.position ≡ left ws →
+  pub fitting_ranked : (n : ℕ) (p : ReaderPlace) → fits l n p ≡ true → (ws : List Open) → close p.units p.position ≡ left ws →
       Ranked p p.position ws
-  fitting-ranked n p e ws q =
+  fitting_ranked n p e ws q =
       let f = fitting l n p e in
-      let a = unclosed-each p.position p.units p.ranks (record { each = f.each; low = f.ranks }) in
+      let a = unclosed_each p.position p.units p.ranks (record { each = f.each; low = f.ranks }) in
       record { each = rw (← left_unclosed p.units ws p.position q) a.each; low = a.low; next = next_stands l n p f }

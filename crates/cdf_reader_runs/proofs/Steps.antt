@@ -12,7 +12,7 @@ use Rattle.cdf_unit_list.specs.Steps.{steps_from}
 use Rattle.cdf_unit_list.specs.declared.Unit.{Unit}
 use Rattle.cdf_unit_list.specs.declared.Open.{Open}
 use Rattle.cdf_unit_list.proofs.Proved.{proved}
-use Rattle.cdf_unit_list.proofs.Stepping.{listing-steps}
+use Rattle.cdf_unit_list.proofs.Stepping.{listing_steps}
 use Rattle.cdf_reader_spec.proofs.Replying.{start}
 
 module _ (l : Layout) (s : List ℕ) where
@@ -42,22 +42,22 @@ module _ (l : Layout) (s : List ℕ) where
   -- The steps from the start are the unit list.
   pub listed : Run (start l s) (listing l s).units (listing l s).end
   listed =
-      let r = lists (suc (length s)) (start l s) [] (λ z. proved.finishes l s (rw (listing-steps l s) z)) in
-      rw (listing-steps l s, r.all) r.run
+      let r = lists (suc (length s)) (start l s) [] (λ z. proved.finishes l s (rw (listing_steps l s) z)) in
+      rw (listing_steps l s, r.all) r.run
 
   -- Steps that come to the end are a run,
-  pub ended-run : (f : ℕ) (x : Step) (before : List Unit) → (steps_from f l s x before).end ≡ ended →
+  pub ended_run : (f : ℕ) (x : Step) (before : List Unit) → (steps_from f l s x before).end ≡ ended →
       (us : List Unit) × ((steps_from f l s x before).units ≡ reverse_aux before us) × Run x us ended
-  ended-run f x before e =
+  ended_run f x before e =
       let r = lists f x before (λ z. clash cc) in
       (r.units, r.all, rw e at r.run)
 
   -- and a run is what steps list that have fuel for it.
-  pub run-steps : {x : Step} {us : List Unit} {e : End} → Run x us e → (f : ℕ) → length us < f → (before : List Unit) →
+  pub run_steps : {x : Step} {us : List Unit} {e : End} → Run x us e → (f : ℕ) → length us < f → (before : List Unit) →
       steps_from f l s x before ≡ record { units = reverse_aux before us; end = e }
   unfolding steps_from
-  run-steps run zero less before = absurd (omega arith)
-  run-steps ends (suc f) less before = refl
-  run-steps breaks (suc f) less before = refl
-  run-steps {e = e} (hands {u = u} {os = os} {pos = pos} {us = us} run) (suc f) less before =
-      run-steps {x = step l s os pos} run f (omega arith) (u ∷ before)
+  run_steps run zero less before = absurd (omega arith)
+  run_steps ends (suc f) less before = refl
+  run_steps breaks (suc f) less before = refl
+  run_steps {e = e} (hands {u = u} {os = os} {pos = pos} {us = us} run) (suc f) less before =
+      run_steps {x = step l s os pos} run f (omega arith) (u ∷ before)

@@ -29,10 +29,10 @@ module _ (pos : ℕ) (o : Open) (os : List Open) (stays : o.end ≡ pos → ⊥)
   same_rank [] rank = refl
   same_rank (k ∷ ks) rank = rw (ne_eqb o.end pos stays)
 
-  pub same-ranks : (ks : List ℕ) → unclosed_ranks (o ∷ os) ks pos ≡ ks
+  pub same_ranks : (ks : List ℕ) → unclosed_ranks (o ∷ os) ks pos ≡ ks
   unfolding unclosed_ranks
-  same-ranks [] = refl
-  same-ranks (k ∷ ks) = rw (ne_eqb o.end pos stays)
+  same_ranks [] = refl
+  same_ranks (k ∷ ks) = rw (ne_eqb o.end pos stays)
 
 -- Units inside one that ends at a position, which is not past the innermost's end, end there too.
 abbrev pub EndAt : ℕ → List Open → Type 0
@@ -80,7 +80,7 @@ module _ (pos : ℕ) (c q : Open) (os : List Open) (k : ℕ) (ks : List ℕ) (ws
       (unclosed_ranks (q ∷ os) ks pos) (eq-eqb c.end pos ends)
       (λ f. record {
         next = same_rank pos q os stays ks (suc k);
-        kept = same-ranks pos q os stays ks;
+        kept = same_ranks pos q os stays ks;
         units = let g = sym f ∙ none_closes pos q os stays in cc;
       })
       e

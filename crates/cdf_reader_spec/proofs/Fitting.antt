@@ -88,9 +88,9 @@ module _ (l : Layout) (n : ℕ) (p : ReaderPlace) where
         ranks = low.1;
       }
 
-  pub fits-true : Fitting l n p → fits l n p ≡ true
+  pub fits_true : Fitting l n p → fits l n p ≡ true
   unfolding fits all clauses every
-  fits-true f =
+  fits_true f =
       rw (
         le-leb 1 (length p.units) f.some,
         le-leb (length p.units) 5 f.five,

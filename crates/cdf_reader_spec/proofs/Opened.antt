@@ -32,13 +32,13 @@ module _ {A : Type 0} (state : A → ℕ) where
   KindsBy os = nested (λ o. root_kind (unit_of (state o))) (λ p o. admits_kind (unit_of (state p)) (unit_of (state o))) os ≡ true
 
   -- Each is in one of its states.
-  states-by : (os : List A) → KindsBy os → every (λ o. is_state (state o)) os ≡ true
+  states_by : (os : List A) → KindsBy os → every (λ o. is_state (state o)) os ≡ true
   unfolding nested every
-  states-by [] k = refl
-  states-by (o ∷ []) k = rw (root_unit (state o) k)
-  states-by (o ∷ p ∷ os) k =
+  states_by [] k = refl
+  states_by (o ∷ []) k = rw (root_unit (state o) k)
+  states_by (o ∷ p ∷ os) k =
       let w = both (admits_kind (unit_of (state p)) (unit_of (state o))) _ k in
-      rw (kind_unit (unit_of (state p)) (state o) w.0) (states-by (p ∷ os) w.1)
+      rw (kind_unit (unit_of (state p)) (state o) w.0) (states_by (p ∷ os) w.1)
 
   -- Each is lower than the one outside it, so that there are few.
   low_by : (o : A) (os : List A) → KindsBy (o ∷ os) → height_in (state o) + suc (length os) ≤ 5
@@ -48,19 +48,19 @@ module _ {A : Type 0} (state : A → ℕ) where
       let w = both (admits_kind (unit_of (state p)) (unit_of (state o))) _ k in
       omega (arith, kind_lower (unit_of (state p)) (unit_of (state o)) w.0, low_by p os w.1)
 
-  pub few-by : (os : List A) → KindsBy os → length os ≤ 4
+  pub few_by : (os : List A) → KindsBy os → length os ≤ 4
   unfolding every
-  few-by [] k = omega arith
-  few-by (o ∷ os) k =
-      let s = both (is_state (state o)) _ (states-by (o ∷ os) k) in
+  few_by [] k = omega arith
+  few_by (o ∷ os) k =
+      let s = both (is_state (state o)) _ (states_by (o ∷ os) k) in
       omega (arith, low_by o os k, state_high (state o) s.0)
 
 -- The reader's.
 pub kinds_states : (os : List Open) → Kinds os → States os
-kinds_states = states-by (λ o. o.state)
+kinds_states = states_by (λ o. o.state)
 
 pub at_most_four : (os : List Open) → Kinds os → length os ≤ 4
-at_most_four = few-by (λ o. o.state)
+at_most_four = few_by (λ o. o.state)
 
 pub kinds_bounded : (os : List Open) → Kinds os → Bounded os
 unfolding nested
@@ -71,26 +71,26 @@ kinds_bounded (o ∷ p ∷ os) k =
 
 -- The tests of the code, unit by unit, are the clauses, taken one after the other.
 module _ (l : Layout) (n : ℕ) where
-  pub chain-clauses : (os : List Open) → chain l n os ≡ true → Kinds os × Starts l os × Ends n os
+  pub chain_clauses : (os : List Open) → chain l n os ≡ true → Kinds os × Starts l os × Ends n os
   unfolding chain nested
-  chain-clauses [] e = absurd (false≢true e)
-  chain-clauses (o ∷ []) e =
+  chain_clauses [] e = absurd (false≢true e)
+  chain_clauses (o ∷ []) e =
       let w = both (root_kind (unit_of o.state)) _ e in
       let v = both (eqb o.start 0) (eqb o.end n) w.1 in
       (w.0, v.0, v.1)
-  chain-clauses (o ∷ p ∷ os) e =
+  chain_clauses (o ∷ p ∷ os) e =
       let x = both (under l p o) _ e in
       let w = both (admits_kind (unit_of p.state) (unit_of o.state)) _ x.0 in
       let v = both (leb (p.start + prefix_of l) o.start) (leb o.end p.end) w.1 in
-      let rest = chain-clauses (p ∷ os) x.1 in
+      let rest = chain_clauses (p ∷ os) x.1 in
       (rw w.0 rest.0, rw v.0 rest.1, rw v.1 rest.2)
 
-  pub clauses-chain : (os : List Open) → Kinds os → Starts l os → Ends n os → chain l n os ≡ true
+  pub clauses_chain : (os : List Open) → Kinds os → Starts l os → Ends n os → chain l n os ≡ true
   unfolding chain nested
-  clauses-chain [] k s e = absurd (false≢true k)
-  clauses-chain (o ∷ []) k s e = rw (k, s, e)
-  clauses-chain (o ∷ p ∷ os) k s e =
+  clauses_chain [] k s e = absurd (false≢true k)
+  clauses_chain (o ∷ []) k s e = rw (k, s, e)
+  clauses_chain (o ∷ p ∷ os) k s e =
       let a = both (admits_kind (unit_of p.state) (unit_of o.state)) _ k in
       let b = both (leb (p.start + prefix_of l) o.start) _ s in
       let c = both (leb o.end p.end) _ e in
-      rw (a.0, b.0, c.0) (clauses-chain (p ∷ os) a.1 b.1 c.1)
+      rw (a.0, b.0, c.0) (clauses_chain (p ∷ os) a.1 b.1 c.1)

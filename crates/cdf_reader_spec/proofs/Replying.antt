@@ -29,70 +29,70 @@ found_is p u os pos = refl
 
 module _ (l : Layout) (s : List ℕ) where
   -- A start is its step, from the empty place.
-  pub first-is : first_of l s ≡ stepped empty_place (start l s)
+  pub first_is : first_of l s ≡ stepped empty_place (start l s)
   unfolding first_of
-  first-is = refl
+  first_is = refl
 
   -- A next is two tests and a step.
-  pub next-tests : (p : ReaderPlace) →
+  pub next_tests : (p : ReaderPlace) →
       next_of l s p
       ≡ cond (is_empty p) (refuse 11 0 p)
       (cond (not (fits l (length s) p)) (refuse 2 0 p) (stepped p (step l s p.units p.position)))
   unfolding next_of
-  next-tests p = refl
+  next_tests p = refl
 
   -- From a place that fits, which is not empty, it is the step.
   pub next_is : (p : ReaderPlace) → fits l (length s) p ≡ true → next_of l s p ≡ stepped p (step l s p.units p.position)
   unfolding is_empty
   next_is p e =
-      rw (next-tests p, ne_eqb (length p.units) 0 (λ z. omega (arith, (fitting l (length s) p e).some)), e)
+      rw (next_tests p, ne_eqb (length p.units) 0 (λ z. omega (arith, (fitting l (length s) p e).some)), e)
 
-  pub previous-tests : (p : ReaderPlace) →
+  pub previous_tests : (p : ReaderPlace) →
       previous_of l s p
       ≡ cond (is_empty p) (refuse 11 0 p)
       (cond (not (fits l (length s) p)) (refuse 2 0 p) (give p))
   unfolding previous_of
-  previous-tests p = refl
+  previous_tests p = refl
 
   -- What passes the last unit is two tests.
-  pub passing-tests : (p : ReaderPlace) (may : Bool) →
+  pub passing_tests : (p : ReaderPlace) (may : Bool) →
       passing l s p may ≡ cond (not may) (refuse 11 0 p) (cond (not (fits l (length s) p)) (refuse 2 0 p) (move_to (passed p)))
   unfolding passing
-  passing-tests p may = refl
+  passing_tests p may = refl
 
   pub skip_is : (p : ReaderPlace) → skip_of l s p ≡ passing l s p (untouched p)
   unfolding skip_of
   skip_is p = refl
 
-  pub take-is : (p : ReaderPlace) → take_of l s p ≡ passing l s p (untouched p && is_group p.last.id)
+  pub take_is : (p : ReaderPlace) → take_of l s p ≡ passing l s p (untouched p && is_group p.last.id)
   unfolding take_of
-  take-is p = refl
+  take_is p = refl
 
-  pub part-is : (p : ReaderPlace) →
+  pub part_is : (p : ReaderPlace) →
       part_of l s p
       ≡ cond (eqb (take_of l s p).number 0) (record { start = p.last.start; size = p.last.end - p.last.start })
       (record { start = 0; size = 0 })
   unfolding part_of
-  part-is p = refl
+  part_is p = refl
 
   -- Each call by its name.
   module _ (p : ReaderPlace) where
-    pub start-named : call_of l s p Start ≡ first_of l s
+    pub start_named : call_of l s p Start ≡ first_of l s
     unfolding call_of
-    start-named = refl
+    start_named = refl
 
-    pub next-named : call_of l s p Next ≡ next_of l s p
+    pub next_named : call_of l s p Next ≡ next_of l s p
     unfolding call_of
-    next-named = refl
+    next_named = refl
 
-    pub skip-named : call_of l s p Skip ≡ skip_of l s p
+    pub skip_named : call_of l s p Skip ≡ skip_of l s p
     unfolding call_of
-    skip-named = refl
+    skip_named = refl
 
-    pub take-named : call_of l s p GetStream ≡ take_of l s p
+    pub take_named : call_of l s p GetStream ≡ take_of l s p
     unfolding call_of
-    take-named = refl
+    take_named = refl
 
-    pub previous-named : call_of l s p Previous ≡ previous_of l s p
+    pub previous_named : call_of l s p Previous ≡ previous_of l s p
     unfolding call_of
-    previous-named = refl
+    previous_named = refl

@@ -29,9 +29,9 @@ use Rattle.cdf_reader_spec.specs.Calls.{untouched, skipped_top, passed, passing,
 use Rattle.cdf_reader_spec.specs.Depths.{LastOf, StandsIn, NoneCloses, OutermostClosed, Kept}
 use Rattle.cdf_reader_spec.proofs.Fitting.{fitting}
 use Rattle.cdf_reader_spec.proofs.Suffix.{suffix, starts_least}
-use Rattle.cdf_reader_spec.proofs.Closed.{none_closes, same_rank, same-ranks, inside_ends, closed}
+use Rattle.cdf_reader_spec.proofs.Closed.{none_closes, same_rank, same_ranks, inside_ends, closed}
 use Rattle.cdf_reader_spec.proofs.Cases.{cases}
-use Rattle.cdf_reader_spec.proofs.Replying.{start, first-is, next-tests, previous-tests, passing-tests, skip_is, take-is}
+use Rattle.cdf_reader_spec.proofs.Replying.{start, first_is, next_tests, previous_tests, passing_tests, skip_is, take_is}
 
 -- What a place gives is its last unit.
 pub last_of : (p : ReaderPlace) → LastOf p (handed_at p)
@@ -77,38 +77,38 @@ module _ (l : Layout) (s : List ℕ) (P : Reply → Type 0) where
           entered_of p p.position (λ next. with_state o next ∷ os) false o.state
           (take (o.end - p.position) (drop p.position s)) (some o os q)
 
-  pub first-of : Entered empty_place 0 (λ next. []) → Of (first_of l s)
-  first-of some = rw first-is (entered_of empty_place 0 (λ next. []) true 0 s some)
+  pub first_of_lem : Entered empty_place 0 (λ next. []) → Of (first_of l s)
+  first_of_lem some = rw first_is (entered_of empty_place 0 (λ next. []) true 0 s some)
 
-  pub next-of : (p : ReaderPlace) → (fits l (length s) p ≡ true → Left p) → Of (next_of l s p)
-  next-of p some =
-      rw next-tests
+  pub next_of_lem : (p : ReaderPlace) → (fits l (length s) p ≡ true → Left p) → Of (next_of l s p)
+  next_of_lem p some =
+      rw next_tests
       (of_cond Of (is_empty p) (refuse 11 0 p) _ (λ e z. absurd (omega arith))
       (λ e. of_cond Of (not (fits l (length s) p)) (refuse 2 0 p) _ (λ f z. absurd (omega arith))
       (λ f. step_of p (some (not-false (fits l (length s) p) f)))))
 
-  pub previous-of : (p : ReaderPlace) → P (give p) → Of (previous_of l s p)
-  previous-of p some =
-      rw previous-tests
+  pub previous_of_lem : (p : ReaderPlace) → P (give p) → Of (previous_of l s p)
+  previous_of_lem p some =
+      rw previous_tests
       (of_cond Of (is_empty p) (refuse 11 0 p) _ (λ e z. absurd (omega arith))
       (λ e. of_cond Of (not (fits l (length s) p)) (refuse 2 0 p) (give p) (λ f z. absurd (omega arith)) (λ f z. some)))
 
-  passing-of : (p : ReaderPlace) (may : Bool) → (fits l (length s) p ≡ true → P (move_to (passed p))) → Of (passing l s p may)
-  passing-of p may some =
-      rw passing-tests
+  passing_of : (p : ReaderPlace) (may : Bool) → (fits l (length s) p ≡ true → P (move_to (passed p))) → Of (passing l s p may)
+  passing_of p may some =
+      rw passing_tests
       (of_cond Of (not may) (refuse 11 0 p) _ (λ e z. absurd (omega arith))
       (λ e. of_cond Of (not (fits l (length s) p)) (refuse 2 0 p) (move_to (passed p)) (λ f z. absurd (omega arith))
       (λ f z. some (not-false (fits l (length s) p) f))))
 
 module _ (l : Layout) (s : List ℕ) where
   pub first_told : (first_of l s).number ≡ 0 → LastOf (first_of l s).place (first_of l s).handed
-  first_told = first-of l s (λ r. LastOf r.place r.handed) (λ u next z. last_of _)
+  first_told = first_of_lem l s (λ r. LastOf r.place r.handed) (λ u next z. last_of _)
 
   pub next_told : (p : ReaderPlace) → (next_of l s p).number ≡ 0 → LastOf (next_of l s p).place (next_of l s p).handed
-  next_told p = next-of l s (λ r. LastOf r.place r.handed) p (λ f o os q u next z. last_of _)
+  next_told p = next_of_lem l s (λ r. LastOf r.place r.handed) p (λ f o os q u next z. last_of _)
 
   pub previous_told : (p : ReaderPlace) → (previous_of l s p).number ≡ 0 → LastOf p (previous_of l s p).handed
-  previous_told p = previous-of l s (λ r. LastOf p r.handed) p (last_of p)
+  previous_told p = previous_of_lem l s (λ r. LastOf p r.handed) p (last_of p)
 
 -- A unit is one deeper than those around it: it is the innermost open one, or it stands in that one, which starts elsewhere.
 depth_in : (p : ReaderPlace) (u : Unit) (o : Open) (os : List Open) (pos : ℕ) → (o.start ≡ u.start → ⊥) →
@@ -142,9 +142,9 @@ module _ (l : Layout) (p : ReaderPlace) (around : List Open) (theirs : List ℕ)
 
 -- The same with the units and ranks of the place in another form.
 module _ (p : ReaderPlace) (us : List Open) (ks : List ℕ) (units : p.units ≡ us) (ranks : p.ranks ≡ ks) where
-  rank-by : next_rank p ≡ rank_after us ks p.position (cond (innermost_at us p.last.start) 0 (suc p.last_rank))
+  rank_by : next_rank p ≡ rank_after us ks p.position (cond (innermost_at us p.last.start) 0 (suc p.last_rank))
   unfolding next_rank
-  rank-by = rw (units, ranks)
+  rank_by = rw (units, ranks)
 
   ranks_by : unclosed_ranks p.units p.ranks p.position ≡ unclosed_ranks us ks p.position
   ranks_by = rw (units, ranks)
@@ -153,7 +153,7 @@ module _ (l : Layout) (s : List ℕ) (p : ReaderPlace) where
   -- Units end at the position or none does.
   pub next_cases : (next_of l s p).number ≡ 0 → OutermostClosed p ⊎ NoneCloses p
   next_cases =
-      next-of l s (λ r. OutermostClosed p ⊎ NoneCloses p) p
+      next_of_lem l s (λ r. OutermostClosed p ⊎ NoneCloses p) p
       (λ f o ws q u next z. cases p o ws p.units p.ranks refl refl (fitting l (length s) p f).each q)
 
   -- Where no unit ends, the next one stands in the innermost.
@@ -163,15 +163,15 @@ module _ (l : Layout) (s : List ℕ) (p : ReaderPlace) where
       let pos = p.position in
       let top = c.innermost in
       let os = c.around in
-      next-of l s (StandsIn p.units p.ranks rank) p (λ f o ws q.
+      next_of_lem l s (StandsIn p.units p.ranks rank) p (λ f o ws q.
       let fit = fitting l (length s) p f in
       let same : left (o ∷ ws) ≡ left (top ∷ os) = sym q ∙ (ap (λ us. close us pos) c.units ∙ none_closes pos top os c.stays) in
       let low = starts_least l pos [] top os (rw c.units at fit.starts) (rw c.units at fit.position) in
       let heads : o.start ≡ top.start = cc in
       stands l p p.units p.ranks rank o ws (record {
         units = cc;
-        ranks = ranks_by p (top ∷ os) p.ranks c.units refl ∙ same-ranks pos top os c.stays p.ranks;
-        rank = rank-by p (top ∷ os) p.ranks c.units refl ∙ (same_rank pos top os c.stays p.ranks _ ∙ e);
+        ranks = ranks_by p (top ∷ os) p.ranks c.units refl ∙ same_ranks pos top os c.stays p.ranks;
+        rank = rank_by p (top ∷ os) p.ranks c.units refl ∙ (same_rank pos top os c.stays p.ranks _ ∙ e);
         start = omega arith;
       }))
 
@@ -194,7 +194,7 @@ module _ (l : Layout) (s : List ℕ) (p : ReaderPlace) where
       let outer = c.parent ∷ c.around in
       let us = c.inside ++ (c.unit ∷ outer) in
       let ks = c.inside_ranks ++ (c.rank ∷ c.around_ranks) in
-      next-of l s (StandsIn outer c.around_ranks (suc c.rank)) p (λ f o ws q.
+      next_of_lem l s (StandsIn outer c.around_ranks (suc c.rank)) p (λ f o ws q.
       let fit = fitting l (length s) p f in
       let starts = rw c.units at fit.starts in
       let position = rw c.units at fit.position in
@@ -208,7 +208,7 @@ module _ (l : Layout) (s : List ℕ) (p : ReaderPlace) where
       stands l p outer c.around_ranks (suc c.rank) o ws (record {
         units = a.units;
         ranks = ranks_by p us ks c.units c.ranks ∙ a.kept;
-        rank = rank-by p us ks c.units c.ranks ∙ a.next;
+        rank = rank_by p us ks c.units c.ranks ∙ a.next;
         start = omega (arith, leb-true (c.parent.start + prefix_of l) c.unit.start lower);
       }))
 
@@ -232,20 +232,20 @@ handed_passed p = ap (λ d. record { unit = p.last; depth = d; rank = p.last_ran
 
 module _ (l : Layout) (s : List ℕ) (p : ReaderPlace) where
   -- At a place that fits PREVIOUS hands out the last unit.
-  pub previous-is : fits l (length s) p ≡ true → previous_of l s p ≡ give p
+  pub previous_is : fits l (length s) p ≡ true → previous_of l s p ≡ give p
   unfolding is_empty
-  previous-is e = rw (previous-tests, ne_eqb (length p.units) 0 (λ z. omega (arith, (fitting l (length s) p e).some)), e)
+  previous_is e = rw (previous_tests, ne_eqb (length p.units) 0 (λ z. omega (arith, (fitting l (length s) p e).some)), e)
 
-  passing-keeps : (may : Bool) → (passing l s p may).number ≡ 0 → Kept l s p (passing l s p may)
+  passing_keeps : (may : Bool) → (passing l s p may).number ≡ 0 → Kept l s p (passing l s p may)
   unfolding passed
-  passing-keeps may = passing-of l s (Kept l s p) p may (λ f. record {
+  passing_keeps may = passing_of l s (Kept l s p) p may (λ f. record {
     ranks = refl;
     last_rank = refl;
-    again = previous-of l s (λ r. r.handed ≡ (previous_of l s p).handed) (passed p) (handed_passed p ∙ sym (ap (λ r. r.handed) (previous-is f)));
+    again = previous_of_lem l s (λ r. r.handed ≡ (previous_of l s p).handed) (passed p) (handed_passed p ∙ sym (ap (λ r. r.handed) (previous_is f)));
   })
 
   pub skip_keeps : (skip_of l s p).number ≡ 0 → Kept l s p (skip_of l s p)
-  skip_keeps = rw skip_is (passing-keeps (untouched p))
+  skip_keeps = rw skip_is (passing_keeps (untouched p))
 
   pub take_keeps : (take_of l s p).number ≡ 0 → Kept l s p (take_of l s p)
-  take_keeps = rw take-is (passing-keeps (untouched p && is_group p.last.id))
+  take_keeps = rw take_is (passing_keeps (untouched p && is_group p.last.id))

@@ -17,8 +17,8 @@ use Rattle.cdf_reader_spec.specs.declared.Call.{Call}
 use Rattle.cdf_reader_spec.specs.declared.Call.TheVariants.{Start, Next, Skip, GetStream, Previous}
 use Rattle.cdf_reader_spec.proofs.Counted.{length_open}
 use Rattle.cdf_reader_spec.proofs.Fitting.{fitting}
-use Rattle.cdf_reader_spec.proofs.Replying.{next-tests, next_is, previous-tests, passing-tests, skip_is, take-is}
-use Rattle.cdf_reader_spec.proofs.Replying.{start-named, next-named, skip-named, take-named, previous-named}
+use Rattle.cdf_reader_spec.proofs.Replying.{next_tests, next_is, previous_tests, passing_tests, skip_is, take_is}
+use Rattle.cdf_reader_spec.proofs.Replying.{start_named, next_named, skip_named, take_named, previous_named}
 use Rattle.cdf_reader_use.specs.Uses.{may_pass, has_use}
 use Rattle.cdf_reader_cursor.specs.Outcomes.{cursor_place, outcome_reply, no_cursor, refusal}
 use Rattle.cdf_reader_cursor.specs.declared.Cursor.{Cursor}
@@ -49,16 +49,16 @@ module _ (p : Cursor) where
   Use c = has_use c p.count p.fresh p.last.id
 
   -- NEXT has where a unit is open.
-  pub next-none : p.count ≡ 0 → Use Next ≡ false
-  next-none e = rw (eq-eqb p.count 0 e)
+  pub next_none : p.count ≡ 0 → Use Next ≡ false
+  next_none e = rw (eq-eqb p.count 0 e)
 
-  pub next-some : (p.count ≡ 0 → ⊥) → Use Next ≡ true
-  next-some e = rw (ne_eqb p.count 0 e)
+  pub next_some : (p.count ≡ 0 → ⊥) → Use Next ≡ true
+  next_some e = rw (ne_eqb p.count 0 e)
 
   -- A place is empty exactly if its count is 0.
-  empty-is : is_empty (cursor_place p) ≡ eqb p.count 0
+  empty_is : is_empty (cursor_place p) ≡ eqb p.count 0
   unfolding is_empty
-  empty-is = rw (length_open p.count p.top p.o1 p.o2 p.o3)
+  empty_is = rw (length_open p.count p.top p.o1 p.o2 p.o3)
 
   -- One that fits has few units.
   pub counts : (l : Layout) (n : ℕ) → fits l n (cursor_place p) ≡ true → (1 ≤ p.count) × (p.count ≤ 5)
@@ -67,9 +67,9 @@ module _ (p : Cursor) where
       let same = length_open p.count p.top p.o1 p.o2 p.o3 in
       (omega (arith, f.some, same), omega (arith, f.five, same))
 
-  untouched-is : untouched (cursor_place p) ≡ may_pass p.count p.fresh p.last.id
+  untouched_is : untouched (cursor_place p) ≡ may_pass p.count p.fresh p.last.id
   unfolding untouched
-  untouched-is = rw empty-is
+  untouched_is = rw empty_is
 
   module _ (l : Layout) (s : List ℕ) where
     abbrev v : ReaderPlace
@@ -87,19 +87,19 @@ module _ (p : Cursor) where
     does GetStream = move_to (passed v)
     does Previous = give v
 
-    some-open : (x : Reply) → cond (is_empty v) (refuse 11 0 v) x ≡ cond (not (not (eqb p.count 0))) (refuse 11 0 v) x
-    some-open x = rw empty-is (go (eqb p.count 0))
+    some_open : (x : Reply) → cond (is_empty v) (refuse 11 0 v) x ≡ cond (not (not (eqb p.count 0))) (refuse 11 0 v) x
+    some_open x = rw empty_is (go (eqb p.count 0))
       where
         go : (b : Bool) → cond b (refuse 11 0 v) x ≡ cond (not (not b)) (refuse 11 0 v) x
         go true = refl
         go false = refl
 
     asked : (c : Call) → call_of l s v c ≡ cond (not (Use c)) (refuse 11 0 v) (cond (not (ready c)) (refuse 2 0 v) (does c))
-    asked Start = start-named l s v
-    asked Next = next-named l s v ∙ next-tests l s v ∙ some-open _
-    asked Skip = skip-named l s v ∙ skip_is l s v ∙ passing-tests l s v _ ∙ rw untouched-is
-    asked GetStream = take-named l s v ∙ take-is l s v ∙ passing-tests l s v _ ∙ rw untouched-is
-    asked Previous = previous-named l s v ∙ previous-tests l s v ∙ some-open _
+    asked Start = start_named l s v
+    asked Next = next_named l s v ∙ next_tests l s v ∙ some_open _
+    asked Skip = skip_named l s v ∙ skip_is l s v ∙ passing_tests l s v _ ∙ rw untouched_is
+    asked GetStream = take_named l s v ∙ take_is l s v ∙ passing_tests l s v _ ∙ rw untouched_is
+    asked Previous = previous_named l s v ∙ previous_tests l s v ∙ some_open _
 
     -- What is promised of the answer to a call.
     abbrev Answers : Call → Outcome → Type 0
@@ -109,7 +109,7 @@ module _ (p : Cursor) where
 
     -- NEXT's own promise.
     pub by_next : (r : Outcome) → Answers Next r → (outcome_reply r ≡ next_of l s v) × ((r.number ≡ 0 → ⊥) → r.cursor ≡ p)
-    by_next r w = (w.0 ∙ next-named l s v, w.1.0)
+    by_next r w = (w.0 ∙ next_named l s v, w.1.0)
 
     module _ (c : Call) where
       refuses : is_start c ≡ false → (n at : ℕ) (r : Outcome) → r ≡ refusal n at p → call_of l s v c ≡ refuse n at v → Answers c r
@@ -128,8 +128,8 @@ module _ (p : Cursor) where
           neither false e = refl
 
       -- What is no start needs a place that fits.
-      pub fit-needed : ready c ≡ true → is_start c ≡ false → fits l (length s) v ≡ true
-      fit-needed f e = rw e at f
+      pub fit_needed : ready c ≡ true → is_start c ≡ false → fits l (length s) v ≡ true
+      fit_needed f e = rw e at f
 
       -- What the call does is its answer.
       module _ (u : Use c ≡ true) (f : ready c ≡ true) where
@@ -145,7 +145,7 @@ module _ (p : Cursor) where
         -- NEXT is a step at any place, which at one that fits is NEXT.
         pub steps : c ≡ Next → (r : Outcome) → outcome_reply r ≡ advanced_by (row_bytes name_row) l s v → ((r.number ≡ 0 → ⊥) → r.cursor ≡ p) → Answers c r
         steps e r is kept =
-            let fit = fit-needed f (rw e) in
+            let fit = fit_needed f (rw e) in
             (is ∙ advances_by name_row refl l s v fit ∙ next_is l s v fit ∙ sym (done ∙ rw e), (rw e kept, other (rw e)))
 
         passes : does c ≡ move_to (passed v) → is_previous c ≡ false → (r : Outcome) → outcome_reply r ≡ move_to (passed v) → Answers c r

@@ -25,14 +25,14 @@ module _ (l : Layout) (s before : List ℕ) (c : Cursor) (at : c ≡ cursor_of (
   Due = advanced l s (view (place_from before))
 
   -- The reply due to the numbers is the outcome's.
-  due-is : (o : Outcome) → turned c t ≡ o → outcome_reply o ≡ Due
-  due-is o e = ap outcome_reply (sym e) ∙ due ∙ ap (λ (x : Cursor). advanced l s (cursor_place x)) at
+  due_is : (o : Outcome) → turned c t ≡ o → outcome_reply o ≡ Due
+  due_is o e = ap outcome_reply (sym e) ∙ due ∙ ap (λ (x : Cursor). advanced l s (cursor_place x)) at
 
   -- A refusal: the answer has its offset and zeros, and the place stays.
   pub refused : (t.number ≡ 0 → ⊥) → (answer : List ℕ) →
       answer ≡ t.offset ∷ 0 ∷ 0 ∷ 0 ∷ 0 ∷ 0 ∷ 0 ∷ 0 ∷ 0 ∷ 0 ∷ [] → Stepped Due before t.number before answer
   refused some answer wrote =
-      let is = due-is (refusal t.number t.offset c) (rw (ne_eqb t.number 0 some)) in
+      let is = due_is (refusal t.number t.offset c) (rw (ne_eqb t.number 0 some)) in
       record {
         told = ap (λ (r : Reply). r.number) is;
         answers = wrote ∙ ap (λ (r : Reply). answer_numbers r no_part) is;
@@ -54,7 +54,7 @@ module _ (l : Layout) (s before : List ℕ) (c : Cursor) (at : c ≡ cursor_of (
       Stepped Due before 0 after answer
   unfolding entering
   handed none after answer wrote told =
-      let is = due-is (entered (cursor_of (place_from before))) (rw (eq-eqb t.number 0 none) (ap entered at)) in
+      let is = due_is (entered (cursor_of (place_from before))) (rw (eq-eqb t.number 0 none) (ap entered at)) in
       let place = ap (λ (r : Reply). r.place) is in
       record {
         told = ap (λ (r : Reply). r.number) is;

@@ -196,12 +196,12 @@ module _ (s : List ℕ) (p : Place) (list₀ : List ℕ) where
   }
 
   -- The count says whether it is the empty one.
-  empty-is : is_empty (view p) ≡ eqb p.count 0
+  empty_is : is_empty (view p) ≡ eqb p.count 0
   unfolding is_empty
-  empty-is = ap (λ n. eqb n 0) (length_open p.count p.top p.o1 p.o2 p.o3)
+  empty_is = ap (λ n. eqb n 0) (length_open p.count p.top p.o1 p.o2 p.o3)
 
   pub none_open : p.count ≡ 0 → Fills s p list₀ (stopped_at 11 0 0 p) list₀
-  none_open z = turned_down 11 (batch.empty (layout_for s) s (view p) (room_of list₀) (empty-is ∙ eq-eqb p.count 0 z))
+  none_open z = turned_down 11 (batch.empty (layout_for s) s (view p) (room_of list₀) (empty_is ∙ eq-eqb p.count 0 z))
 
-  pub no-fit : (p.count ≡ 0 → ⊥) → fits (layout_for s) (length s) (view p) ≡ false → Fills s p list₀ (stopped_at 2 0 0 p) list₀
-  no-fit some f = turned_down 2 (batch.unfit (layout_for s) s (view p) (room_of list₀) (empty-is ∙ ne_eqb p.count 0 some) f)
+  pub no_fit : (p.count ≡ 0 → ⊥) → fits (layout_for s) (length s) (view p) ≡ false → Fills s p list₀ (stopped_at 2 0 0 p) list₀
+  no_fit some f = turned_down 2 (batch.unfit (layout_for s) s (view p) (room_of list₀) (empty_is ∙ ne_eqb p.count 0 some) f)

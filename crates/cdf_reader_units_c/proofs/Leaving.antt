@@ -14,8 +14,8 @@ use Rattle.cdf_reader_units_c.proofs.Reading.{no_units}
 
 module _ {s before list : List ℕ} {f : Filled} {listed : List ℕ} (w : Fills s (place_from before) list f listed) where
   -- No unit was handed out: the numbers stay.
-  pub leaves-old : f.count ≡ 0 → Batched s before list f.number before listed (f.offset ∷ f.count ∷ [])
-  leaves-old z = record {
+  pub leaves_old : f.count ≡ 0 → Batched s before list f.number before listed (f.offset ∷ f.count ∷ [])
+  leaves_old z = record {
     told = w.number;
     answers = rw (w.offset, w.count);
     moves = sym (ap view (w.kept z)) ∙ w.place;
@@ -25,9 +25,9 @@ module _ {s before list : List ℕ} {f : Filled} {listed : List ℕ} (w : Fills 
   }
 
   -- Some were: the new place's are written.
-  pub leaves-new : (f.count ≡ 0 → ⊥) → (after : List ℕ) → after ≡ numbers_of f.place →
+  pub leaves_new : (f.count ≡ 0 → ⊥) → (after : List ℕ) → after ≡ numbers_of f.place →
       Batched s before list f.number after listed (f.offset ∷ f.count ∷ [])
-  leaves-new some after is = record {
+  leaves_new some after is = record {
     told = w.number;
     answers = rw (w.offset, w.count);
     moves = ap (λ ns. view (place_from ns)) is ∙ ap view (read_again f.place) ∙ w.place;

@@ -11,7 +11,7 @@ use Rattle.cdf_unit_list.specs.declared.Ranked.{Ranked}
 use Rattle.cdf_reader_spec.specs.Place.{ReaderPlace}
 use Rattle.cdf_reader_spec.specs.Calls.{Reply, first_of}
 use Rattle.cdf_reader_spec.specs.declared.Call.TheVariants.{Start}
-use Rattle.cdf_reader_spec.proofs.Replying.{start-named}
+use Rattle.cdf_reader_spec.proofs.Replying.{start_named}
 use Rattle.cdf_reader.specs.View.{view}
 use Rattle.cdf_reader_numbers.specs.Numbers.{place_from, Called}
 use Rattle.cdf_reader_units_spec.specs.Batch.{batch_of}
@@ -59,9 +59,9 @@ tail_is root r units us vs n e h = ap (drop 1) (h ∙ ap (take (suc n)) e)
 -- After a start a batch of any room is the front of the units behind the root.
 module _ (s place first : List ℕ) (root : Ranked) (units : List Ranked) (e : ranked_units (layout_for s) s ≡ root ∷ units) (given : List ℕ)
     (c : Called Start s given 0 place first) where
-  behind-root : (room : ℕ) → (batch_of (layout_for s) s (view (place_from place)) room).units ≡ take room units
-  behind-root room =
-      let begun = start-named (layout_for s) s (view (place_from given)) in
+  behind_root : (room : ℕ) → (batch_of (layout_for s) s (view (place_from place)) room).units ≡ take room units
+  behind_root room =
+      let begun = start_named (layout_for s) s (view (place_from given)) in
       let zero : (first_of (layout_for s) s).number ≡ 0 = sym (c.told ∙ ap (λ (r : Reply). r.number) begun) in
       let at : view (place_from place) ≡ (first_of (layout_for s) s).place = c.moves ∙ ap (λ (r : Reply). r.place) begun in
       ap (λ (p : ReaderPlace). (batch_of (layout_for s) s p room).units) at
@@ -70,13 +70,13 @@ module _ (s place first : List ℕ) (root : Ranked) (units : List Ranked) (e : r
 
   reads : (list : List ℕ) (number : ℕ) (after listed answer : List ℕ) → Batched s place list number after listed answer →
       Told (take (length list / 7) units) listed answer
-  reads list number after listed answer w = rw (← behind-root (room_of list)) (told w)
+  reads list number after listed answer w = rw (← behind_root (room_of list)) (told w)
 
   reads_on : (list : List ℕ) (number : ℕ) (after listed answer : List ℕ) → Batched s place list number after listed answer →
       (list2 : List ℕ) (number2 : ℕ) (after2 listed2 answer2 : List ℕ) → Batched s after list2 number2 after2 listed2 answer2 →
       Told (take (length list2 / 7) (drop (length list / 7) units)) listed2 answer2
   reads_on list number after listed answer w list2 number2 after2 listed2 answer2 v =
-      let next = goes_on (layout_for s) s (view (place_from place)) units behind-root (room_of list) (room_of list2) in
+      let next = goes_on (layout_for s) s (view (place_from place)) units behind_root (room_of list) (room_of list2) in
       let due : (batch_to s after list2).units ≡ take (length list2 / 7) (drop (length list / 7) units) =
       ap (λ (p : ReaderPlace). (batch_of (layout_for s) s p (room_of list2)).units) w.moves ∙ next in
       rw (← due) (told v)

@@ -17,9 +17,9 @@ use Rattle.cdf_unit_list.specs.declared.Ranked.{Ranked}
 use Rattle.cdf_reader_spec.specs.Place.{ReaderPlace}
 use Rattle.cdf_reader_spec.specs.Calls.{Reply, first_of, next_of}
 use Rattle.cdf_reader_runs.specs.Runs.{Outcome, reading, outcome, afterwards, due}
-use Rattle.cdf_reader_runs.proofs.Readings.{reading-first, reading-next, reads, begins}
+use Rattle.cdf_reader_runs.proofs.Readings.{reading_first, reading_next, reads, begins}
 use Rattle.cdf_reader_units_spec.specs.Batch.{Batch, no_units, with_unit, batch_of}
-use Rattle.cdf_reader_units_spec.proofs.Batches.{stops, by-room}
+use Rattle.cdf_reader_units_spec.proofs.Batches.{stops, by_room}
 
 -- What is due from one answer on goes by what is left of the list there.
 due_left : (last : Outcome) (xs ys : List Ranked) (k : ℕ) → drop k xs ≡ ys → due last xs k ≡ due last ys 0
@@ -54,9 +54,9 @@ module _ (l : Layout) (s : List ℕ) where
   told r o e = (ap (λ (x : Outcome). x.number) e, ap (λ (x : Outcome). x.offset) e, ap (λ (x : Outcome). x.handed) e)
 
   -- A start that hands out the root has one to list.
-  some-listed : (first_of l s).number ≡ 0 → (listing l s).units ≡ [] → ⊥
+  some_listed : (first_of l s).number ≡ 0 → (listing l s).units ≡ [] → ⊥
   unfolding ranked_units ranked
-  some-listed z none =
+  some_listed z none =
       let first : outcome (first_of l s) ≡ due last [] 0 = begins l s ∙ ap (λ us. due last (ranked [] us) 0) none in
       ends_some (check_of l s) (sym (told (first_of l s) last (first ∙ due_none last 0)).0 ∙ z)
 
@@ -65,7 +65,7 @@ module _ (l : Layout) (s : List ℕ) where
     answer : (k : ℕ) (p : ReaderPlace) (ys : List Ranked) → p ≡ (reading l s k).place → drop (suc k) (ranked_units l s) ≡ ys →
         outcome (next_of l s p) ≡ due last ys 0
     answer k p ys at left =
-        ap (λ q. outcome (next_of l s q)) at ∙ ap outcome (sym (reading-next l s k)) ∙ reads l s (some-listed z) (suc k)
+        ap (λ q. outcome (next_of l s q)) at ∙ ap outcome (sym (reading_next l s k)) ∙ reads l s (some_listed z) (suc k)
         ∙ due_left last (ranked_units l s) ys (suc k) left
 
     stopped : (k : ℕ) (p : ReaderPlace) → p ≡ (reading l s k).place → drop (suc k) (ranked_units l s) ≡ [] → outcome (next_of l s p) ≡ last
@@ -76,14 +76,14 @@ module _ (l : Layout) (s : List ℕ) where
     handed k p u us at left = let t = told (next_of l s p) _ (answer k p (u ∷ us) at left ∙ due_first last u us) in (t.0, t.2)
 
     onward : (k : ℕ) (p : ReaderPlace) → p ≡ (reading l s k).place → (next_of l s p).place ≡ (reading l s (suc k)).place
-    onward k p at = ap (λ q. (next_of l s q).place) at ∙ ap (λ (r : Reply). r.place) (sym (reading-next l s k))
+    onward k p at = ap (λ q. (next_of l s q).place) at ∙ ap (λ (r : Reply). r.place) (sym (reading_next l s k))
 
     -- The units of a batch behind k units: those that are left, as far as the room goes.
     abbrev Units : ReaderPlace → ℕ → Batch → Type 0
     Units p room b = (k : ℕ) → p ≡ (reading l s k).place → b.units ≡ take room (drop (suc k) (ranked_units l s))
 
-    units-from : (p : ReaderPlace) (room : ℕ) → Units p room (batch_of l s p room)
-    units-from = by-room l s Units (λ p n h k at. refl) (λ p f k at. refl) stop on
+    units_from : (p : ReaderPlace) (room : ℕ) → Units p room (batch_of l s p room)
+    units_from = by_room l s Units (λ p n h k at. refl) (λ p f k at. refl) stop on
       where
         stop : (p : ReaderPlace) (room : ℕ) → ((next_of l s p).number ≡ 0 → ⊥) →
             Units p (suc room) (no_units (next_of l s p).number (next_of l s p).offset p)
@@ -111,9 +111,9 @@ module _ (l : Layout) (s : List ℕ) where
     all_left : (p : ReaderPlace) (k : ℕ) → p ≡ (reading l s k).place → length (ranked_units l s) ≤ suc k + 0 → outcome (next_of l s p) ≡ last
     all_left p k at few = stopped k p at (drop_of_length-le (ranked_units l s) {i = suc k} (omega arith))
 
-    ends-from : (p : ReaderPlace) (room : ℕ) → Ends p room (batch_of l s p room)
-    ends-from =
-        by-room l s Ends (λ p n h. all_left p) (λ p f. all_left p) stop (λ p room none more k at few. more (suc k) (onward k p at) (omega arith))
+    ends_from : (p : ReaderPlace) (room : ℕ) → Ends p room (batch_of l s p room)
+    ends_from =
+        by_room l s Ends (λ p n h. all_left p) (λ p f. all_left p) stop (λ p room none more k at few. more (suc k) (onward k p at) (omega arith))
       where
         stop : (p : ReaderPlace) (room : ℕ) → ((next_of l s p).number ≡ 0 → ⊥) →
             Ends p (suc room) (no_units (next_of l s p).number (next_of l s p).offset p)
@@ -124,24 +124,24 @@ module _ (l : Layout) (s : List ℕ) where
             go (u ∷ us) left = absurd (some (handed k p u us at left).0)
 
     begun : (first_of l s).place ≡ (reading l s 0).place
-    begun = ap (λ (r : Reply). r.place) (sym (reading-first l s))
+    begun = ap (λ (r : Reply). r.place) (sym (reading_first l s))
 
-  pub reads-units : (room : ℕ) → (first_of l s).number ≡ 0 →
+  pub reads_units : (room : ℕ) → (first_of l s).number ≡ 0 →
       (first_of l s).handed ∷ (batch_of l s (first_of l s).place room).units ≡ take (suc room) (ranked_units l s)
-  reads-units room z = rw (units-from z (first_of l s).place room 0 (begun z)) (go (ranked_units l s) refl)
+  reads_units room z = rw (units_from z (first_of l s).place room 0 (begun z)) (go (ranked_units l s) refl)
     where
-      begun-by : (xs : List Ranked) → ranked_units l s ≡ xs → outcome (first_of l s) ≡ due last xs 0
-      begun-by xs e = begins l s ∙ ap (λ us. due last us 0) e
+      begun_by : (xs : List Ranked) → ranked_units l s ≡ xs → outcome (first_of l s) ≡ due last xs 0
+      begun_by xs e = begins l s ∙ ap (λ us. due last us 0) e
 
       go : (xs : List Ranked) → ranked_units l s ≡ xs → (first_of l s).handed ∷ take room (drop 1 (ranked_units l s)) ≡ take (suc room) (ranked_units l s)
-      go [] e = absurd (ends_some (check_of l s) (sym (told (first_of l s) last (begun-by [] e ∙ due_none last 0)).0 ∙ z))
+      go [] e = absurd (ends_some (check_of l s) (sym (told (first_of l s) last (begun_by [] e ∙ due_none last 0)).0 ∙ z))
       go (u ∷ us) e =
-          let t = told (first_of l s) _ (begun-by (u ∷ us) e ∙ due_first last u us) in rw (e, t.2)
+          let t = told (first_of l s) _ (begun_by (u ∷ us) e ∙ due_first last u us) in rw (e, t.2)
 
   pub reads_end : (room more : ℕ) → (first_of l s).number ≡ 0 → length (ranked_units l s) ≤ suc room →
       let end = batch_of l s (batch_of l s (first_of l s).place room).place (suc more) in
       (end.number ≡ (afterwards (check_of l s)).number) × (end.offset ≡ (afterwards (check_of l s)).offset)
   reads_end room more z few =
       let q = (batch_of l s (first_of l s).place room).place in
-      let t = told (next_of l s q) last (ends-from z (first_of l s).place room 0 (begun z) (omega arith)) in
+      let t = told (next_of l s q) last (ends_from z (first_of l s).place room 0 (begun z) (omega arith)) in
       rw (stops l s q more (λ e. ends_some (check_of l s) (sym t.0 ∙ e))) (t.0, t.1)

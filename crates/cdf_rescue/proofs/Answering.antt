@@ -27,19 +27,19 @@ module _ (l : Layout) (s : List ℕ) (room : ℕ) where
   few_bytes h = rw (lt-ltb (length s) (prefix_of l) h)
 
   module _ (enough : prefix_of l ≤ length s) where
-    pub nothing-kept : length (kept_of l s) ≡ 0 → rescue_of l room s ≡ refusal 16
+    pub nothing_kept : length (kept_of l s) ≡ 0 → rescue_of l room s ≡ refusal 16
     unfolding rescue_of rescued
-    nothing-kept e = rw (le-ltb (length s) (prefix_of l) enough, eq-eqb (length (kept_of l s)) 0 e)
+    nothing_kept e = rw (le-ltb (length s) (prefix_of l) enough, eq-eqb (length (kept_of l s)) 0 e)
 
     module _ (some : length (kept_of l s) ≡ 0 → ⊥) where
-      pub many-runs : most_runs < runs → rescue_of l room s ≡ refusal 17
+      pub many_runs : most_runs < runs → rescue_of l room s ≡ refusal 17
       unfolding rescue_of rescued
-      many-runs h = rw (le-ltb (length s) (prefix_of l) enough, ne_eqb (length (kept_of l s)) 0 some, lt-ltb most_runs runs h)
+      many_runs h = rw (le-ltb (length s) (prefix_of l) enough, ne_eqb (length (kept_of l s)) 0 some, lt-ltb most_runs runs h)
 
       module _ (few : runs ≤ most_runs) where
-        pub long-group : l.limit < size → rescue_of l room s ≡ refusal 13
+        pub long_group : l.limit < size → rescue_of l room s ≡ refusal 13
         unfolding rescue_of rescued
-        long-group h =
+        long_group h =
             rw (le-ltb (length s) (prefix_of l) enough, ne_eqb (length (kept_of l s)) 0 some, le-ltb most_runs runs few, lt-ltb l.limit size h)
 
         module _ (short : size ≤ l.limit) where

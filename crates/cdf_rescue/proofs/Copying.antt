@@ -72,7 +72,7 @@ module _ (l : Layout) (s out₀ from to : List ℕ) (runs : ℕ) where
       let w = split l s (prefix_of l) g.few in
       let none : prefix_of l + 0 ≡ prefix_of l = omega arith in
       let same : patch (prefix_of l) [] out₀ ≡ out₀ = patch_some (prefix_of l) [] out₀ (omega (arith, g.room)) ∙ rw (none, take-append-drop) in
-      record { ready = g; front = []; written = sym same; place_is = omega arith; rest = w.kept-is; rise = w.rise }
+      record { ready = g; front = []; written = sym same; place_is = omega arith; rest = w.kept_is; rise = w.rise }
 
   module _ (at place i : ℕ) (out : List ℕ) (g : Copying l s out₀ from to runs at place i out) where
     -- What is written next has room.

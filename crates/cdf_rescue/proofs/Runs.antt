@@ -11,8 +11,8 @@ use lib.ListN.{length, take, drop, length-drop, drop_of_length-le, take-append-d
 use lib.Seq.{take-add, drop-drop}
 use Rattle.cdf_unit_prefix.specs.Layout.{Layout}
 use Rattle.cdf_rescue_spec.specs.Salvage.{whole_at, kept_bytes, Run, join_run, runs_of}
-use Rattle.cdf_rescue_spec.proofs.Steps.{none-at, drop_at, keep_at}
-use Rattle.cdf_rescue_spec.proofs.Cutting.{whole_within, by-pieces}
+use Rattle.cdf_rescue_spec.proofs.Steps.{none_at, drop_at, keep_at}
+use Rattle.cdf_rescue_spec.proofs.Cutting.{whole_within, by_pieces}
 use Rattle.cdf_rescue.specs.Parts.{Gap, kept_from, runs_from}
 
 abbrev pub run : ℕ → ℕ → Run
@@ -70,22 +70,22 @@ module _ (l : Layout) (s : List ℕ) where
   -- The runs rise, and what lies outside them is kept.
   pub record Split (at : ℕ) (kept : List ℕ) (runs : List Run) : Type 0 where
     pub rise : Rising at (length s) runs
-    pub kept-is : kept ≡ outside s at runs
+    pub kept_is : kept ≡ outside s at runs
 
   pub split : (at : ℕ) → at ≤ length s → Split at (kept_from l s at) (runs_from l s at)
   unfolding kept_bytes runs_of
   split at h =
-      by-pieces l s (λ at ps. at ≤ length s → Split at (kept_bytes s ps) (runs_of ps))
-      (λ at end h. record { rise = h; kept-is = sym (drop_of_length-le s end) })
+      by_pieces l s (λ at ps. at ≤ length s → Split at (kept_bytes s ps) (runs_of ps))
+      (λ at end h. record { rise = h; kept_is = sym (drop_of_length-le s end) })
       (λ at ps some e more h.
       let w = more (omega arith) in
-      record { rise = rising_join at (length s) (runs_of ps) w.rise; kept-is = w.kept-is ∙ sym (outside_join s at (runs_of ps)) })
+      record { rise = rising_join at (length s) (runs_of ps) w.rise; kept_is = w.kept_is ∙ sym (outside_join s at (runs_of ps)) })
       (λ at k ps e room more h.
       let w = more room in
       let long : at + suc k - at ≡ suc k = omega arith in
       record {
         rise = rising_from at (at + suc k) (length s) (runs_of ps) (omega arith) w.rise;
-        kept-is = rw (long, w.kept-is) (outside_front s at (suc k) (length s) (runs_of ps) w.rise);
+        kept_is = rw (long, w.kept_is) (outside_front s at (suc k) (length s) (runs_of ps) w.rise);
       })
       (length s) at (omega arith) h
 
@@ -93,7 +93,7 @@ module _ (l : Layout) (s : List ℕ) where
   alone : (at to : ℕ) → (to ≡ length s) ⊎ (whole_at l (drop to s) ≡ 0 → ⊥) → to ≤ length s →
       join_run (run at to) (runs_from l s to) ≡ run at to ∷ runs_from l s to
   unfolding join_run runs_of
-  alone at to (inl end) h = rw (none-at l s to (omega arith))
+  alone at to (inl end) h = rw (none_at l s to (omega arith))
   alone at to (inr some) h = go (whole_at l (drop to s)) refl
     where
       later : (k : ℕ) (rs : List Run) → Rising (to + suc k) (length s) rs → join_run (run at to) rs ≡ run at to ∷ rs
@@ -112,15 +112,15 @@ module _ (l : Layout) (s : List ℕ) where
     pub runs : runs_from l s at ≡ run at to ∷ runs_from l s to
     pub kept : kept_from l s at ≡ kept_from l s to
 
-  one-run : (d at to : ℕ) → to ≡ suc (at + d) → Gap l s at to → OneRun at to
+  one_run : (d at to : ℕ) → to ≡ suc (at + d) → Gap l s at to → OneRun at to
   unfolding kept_bytes runs_of join_run
-  one-run zero at to e g =
+  one_run zero at to e g =
       let next : suc at ≡ to = omega arith in
       let step = drop_at l s at (omega (arith, g.high)) (g.none at (omega arith) (omega arith)) in
       record { runs = rw (step, next) (alone at to g.stops g.high); kept = rw (step, next) }
-  one-run (suc d) at to e g =
+  one_run (suc d) at to e g =
       let step = drop_at l s at (omega (arith, g.high)) (g.none at (omega arith) (omega arith)) in
-      let w = one-run d (suc at) to (omega arith) (record {
+      let w = one_run d (suc at) to (omega arith) (record {
         low = omega arith;
         high = g.high;
         none = λ i a b. g.none i (omega arith) b;
@@ -128,5 +128,5 @@ module _ (l : Layout) (s : List ℕ) where
       }) in
       record { runs = rw (step, w.runs, eq-eqb (suc at) (suc at) refl); kept = rw step w.kept }
 
-  pub gap-run : (at to : ℕ) → at < to → Gap l s at to → OneRun at to
-  gap-run at to h g = one-run (to - suc at) at to (omega arith) g
+  pub gap_run : (at to : ℕ) → at < to → Gap l s at to → OneRun at to
+  gap_run at to h g = one_run (to - suc at) at to (omega arith) g

@@ -13,20 +13,20 @@ use Rattle.cdf_unit_table.proofs.Bools.{clash, of_cond}
 use Rattle.cdf_unit_table.proofs.Entries.{pad_on}
 use Rattle.cdf_unit_prefix.specs.Layout.{Layout, prefix_of}
 use Rattle.cdf_rescue_spec.specs.Salvage.{whole_at, pieces, kept_bytes, Run, join_run, runs_of, most_runs}
-use Rattle.cdf_rescue_spec.proofs.Steps.{none-at, drop_at}
+use Rattle.cdf_rescue_spec.proofs.Steps.{none_at, drop_at}
 use Rattle.cdf_rescue.specs.Numbers.{firsts, ends}
 use Rattle.cdf_rescue.specs.Parts.{Gap, Span, kept_from, runs_from, Scanned}
 use Rattle.cdf_rescue.specs.declared.Found.{Found}
-use Rattle.cdf_rescue.proofs.Runs.{run, gap-run}
+use Rattle.cdf_rescue.proofs.Runs.{run, gap_run}
 
 module _ (f : Run → ℕ) where
   map_on : (rs : List Run) (r : Run) → map f (rs ++ (r ∷ [])) ≡ map f rs ++ (f r ∷ [])
   map_on [] r = refl
   map_on (q ∷ qs) r = ap (λ xs. f q ∷ xs) (map_on qs r)
 
-  entry-on : (rs : List Run) (r : Run) → length rs < most_runs →
+  entry_on : (rs : List Run) (r : Run) → length rs < most_runs →
       set (padded most_runs (map f rs)) (length rs) (f r) ≡ padded most_runs (map f (rs ++ (r ∷ [])))
-  entry-on rs r h =
+  entry_on rs r h =
       let same = length-map rs f in
       rw (← same, map_on rs r) (pad_on most_runs (map f rs) (f r) (omega arith))
 
@@ -45,19 +45,19 @@ module _ (l : Layout) (s : List ℕ) where
     pub stops : (at ≡ length s) ⊎ (whole_at l (drop at s) ≡ 0)
     pub some : (runs ≡ 0) ⊎ ((0 < kept) ⊎ (at ≡ length s))
 
-  part-long : (at to : ℕ) → at ≤ to → to ≤ length s → length (take (to - at) (drop at s)) ≡ to - at
-  part-long at to low high = omega (arith, length-take (to - at) (drop at s), length-drop at s)
+  part_long : (at to : ℕ) → at ≤ to → to ≤ length s → length (take (to - at) (drop at s)) ≡ to - at
+  part_long at to low high = omega (arith, length-take (to - at) (drop at s), length-drop at s)
 
-  pub scan-begun : (at : ℕ) → Span l s (prefix_of l) at → Scanning at (at - prefix_of l) 0 (replicate 64 0) (replicate 64 0)
+  pub scan_begun : (at : ℕ) → Span l s (prefix_of l) at → Scanning at (at - prefix_of l) 0 (replicate 64 0) (replicate 64 0)
   unfolding pieces
-  scan-begun at w = record {
+  scan_begun at w = record {
     done = [];
     all = w.runs;
     count = refl;
     few = omega arith;
     from_is = refl;
     to_is = refl;
-    bytes = ap length w.bytes ∙ rw (length-append, part-long (prefix_of l) at w.low w.high);
+    bytes = ap length w.bytes ∙ rw (length-append, part_long (prefix_of l) at w.low w.high);
     within = omega arith;
     high = w.high;
     stops = w.stops;
@@ -95,10 +95,10 @@ module _ (l : Layout) (s : List ℕ) where
             by (yes p) = inl (omega arith)
             by (no p) = let same : start ≡ end = omega (arith, v.low) in absurd (some (rw same none))
 
-    pub scan-on : (start end : ℕ) → runs < most_runs → Gap l s at start → Span l s start end →
+    pub scan_on : (start end : ℕ) → runs < most_runs → Gap l s at start → Span l s start end →
         Scanning end (kept + (end - start)) (runs + 1) (set from runs at) (set to runs start)
-    scan-on start end room w v =
-        let one = gap-run l s at start (later start w) w in
+    scan_on start end room w v =
+        let one = gap_run l s at start (later start w) w in
         let r = run at start in
         let few : length g.done < most_runs = omega (arith, g.count) in
         record {
@@ -106,11 +106,11 @@ module _ (l : Layout) (s : List ℕ) where
           all = g.all ∙ rw (one.runs, v.runs) (sym (append_assoc g.done (r ∷ []) (runs_from l s end)));
           count = omega (arith, g.count, length-append g.done (r ∷ []));
           few = omega arith;
-          from_is = rw (g.from_is, g.count) (entry-on (λ (q : Run). q.from) g.done r few);
-          to_is = rw (g.to_is, g.count) (entry-on (λ (q : Run). q.to) g.done r few);
+          from_is = rw (g.from_is, g.count) (entry_on (λ (q : Run). q.from) g.done r few);
+          to_is = rw (g.to_is, g.count) (entry_on (λ (q : Run). q.to) g.done r few);
           bytes =
               let more = ap length (one.kept ∙ v.bytes) in
-              let long = part-long start end v.low v.high in
+              let long = part_long start end v.low v.high in
               omega (arith, g.bytes, length-append (take (end - start) (drop start s)) (kept_from l s end));
           within = omega (arith, g.within, w.low, v.low);
           high = v.high;
@@ -119,10 +119,10 @@ module _ (l : Layout) (s : List ℕ) where
         }
 
     -- One run more than there are entries; and between two of them something is kept.
-    pub scan-many : runs ≡ most_runs → (r : Found) → r.many ≡ true → Scanned l s r
+    pub scan_many : runs ≡ most_runs → (r : Found) → r.many ≡ true → Scanned l s r
     unfolding runs_of join_run
-    scan-many full r e = record {
-      many = λ x. (more, kept-some g.some);
+    scan_many full r e = record {
+      many = λ x. (more, kept_some g.some);
       all = λ x. clash cc;
     }
       where
@@ -137,17 +137,17 @@ module _ (l : Layout) (s : List ℕ) where
         more : most_runs < length (runs_of (pieces l s))
         more = rw (g.all, length-append) (omega (arith, next, g.count))
 
-        kept-some : (runs ≡ 0) ⊎ ((0 < kept) ⊎ (at ≡ length s)) → length (kept_bytes s (pieces l s)) ≡ 0 → ⊥
-        kept-some (inl e) none = omega arith
-        kept-some (inr (inl e)) none = omega (arith, g.bytes)
-        kept-some (inr (inr e)) none = omega arith
+        kept_some : (runs ≡ 0) ⊎ ((0 < kept) ⊎ (at ≡ length s)) → length (kept_bytes s (pieces l s)) ≡ 0 → ⊥
+        kept_some (inl e) none = omega arith
+        kept_some (inr (inl e)) none = omega (arith, g.bytes)
+        kept_some (inr (inr e)) none = omega arith
 
   -- At the end all runs are found.
-  pub scan-all : (at kept runs : ℕ) (from to : List ℕ) → Scanning at kept runs from to → length s ≤ at → (r : Found) → r.many ≡ false →
+  pub scan_all : (at kept runs : ℕ) (from to : List ℕ) → Scanning at kept runs from to → length s ≤ at → (r : Found) → r.many ≡ false →
       r.kept ≡ kept → r.runs ≡ runs → r.from ≡ from → r.to ≡ to → Scanned l s r
   unfolding kept_bytes runs_of
-  scan-all at kept runs from to g end r one k n f t =
-      let none = none-at l s at end in
+  scan_all at kept runs from to g end r one k n f t =
+      let none = none_at l s at end in
       let all : runs_of (pieces l s) ≡ g.done = g.all ∙ rw none (append-nil g.done) in
       let bytes : length (kept_bytes s (pieces l s)) ≡ kept = g.bytes ∙ rw none (omega arith) in
       record {

@@ -29,8 +29,8 @@ module _ (l : Layout) (s : List ℕ) (from : ℕ) where
       go i a b (yes q) = p.none i a q
       go i a b (no q) = let same : i ≡ at = omega arith in rw same e
 
-  pub passed-all : (at : ℕ) → Passed at → (at ≡ length s) ⊎ (whole_at l (drop at s) ≡ 0 → ⊥) → Gap l s from at
-  passed-all at p stops = record { low = p.low; high = p.high; none = p.none; stops = stops }
+  pub passed_all : (at : ℕ) → Passed at → (at ≡ length s) ⊎ (whole_at l (drop at s) ≡ 0 → ⊥) → Gap l s from at
+  passed_all at p stops = record { low = p.low; high = p.high; none = p.none; stops = stops }
 
   -- Whole units stand up to the position.
   pub record Kept (at : ℕ) : Type 0 where
@@ -39,8 +39,8 @@ module _ (l : Layout) (s : List ℕ) (from : ℕ) where
     pub bytes : kept_from l s from ≡ take (at - from) (drop from s) ++ kept_from l s at
     pub runs : runs_from l s from ≡ runs_from l s at
 
-  pub kept-none : from ≤ length s → Kept from
-  kept-none h = let none : from - from ≡ 0 = omega arith in record { low = omega arith; high = h; bytes = rw none; runs = refl }
+  pub kept_none : from ≤ length s → Kept from
+  kept_none h = let none : from - from ≡ 0 = omega arith in record { low = omega arith; high = h; bytes = rw none; runs = refl }
 
   pub kept_on : (at k : ℕ) → Kept at → at < length s → k ≡ whole_at l (drop at s) → k ≤ length (drop at s) → (k ≡ 0 → ⊥) → Kept (at + k)
   unfolding kept_bytes runs_of
@@ -58,5 +58,5 @@ module _ (l : Layout) (s : List ℕ) (from : ℕ) where
         runs = p.runs ∙ rw step;
       }
 
-  pub kept-all : (at : ℕ) → Kept at → (at ≡ length s) ⊎ (whole_at l (drop at s) ≡ 0) → Span l s from at
-  kept-all at p stops = record { low = p.low; high = p.high; bytes = p.bytes; runs = p.runs; stops = stops }
+  pub kept_all : (at : ℕ) → Kept at → (at ≡ length s) ⊎ (whole_at l (drop at s) ≡ 0) → Span l s from at
+  kept_all at p stops = record { low = p.low; high = p.high; bytes = p.bytes; runs = p.runs; stops = stops }

@@ -35,41 +35,41 @@ module _ (l : Layout) (s : List ℕ) where
   abbrev state : ℕ
   state = nothing er_group
 
-  none-by : (n : ℕ) → (check_in l state s).number ≡ n → (n ≡ 0 → ⊥) → 0 ≡ whole_at l s
+  none_by : (n : ℕ) → (check_in l state s).number ≡ n → (n ≡ 0 → ⊥) → 0 ≡ whole_at l s
   unfolding whole_at
-  none-by n e some = rw (e, ne_eqb n 0 some)
+  none_by n e some = rw (e, ne_eqb n 0 some)
 
   faulty : {n k : ℕ} → judge_of l false state s ≡ Fault n k → (check_in l state s).number ≡ n
   unfolding check_in list_by
   faulty e = rw e
 
-  none-judged : {n k : ℕ} → judge_of l false state s ≡ Fault n k → 0 ≡ whole_at l s
-  none-judged {n} e = none-by n (faulty e) (λ z. let t = told l false s state e in omega (arith, t.low))
+  none_judged : {n k : ℕ} → judge_of l false state s ≡ Fault n k → 0 ≡ whole_at l s
+  none_judged {n} e = none_by n (faulty e) (λ z. let t = told l false s state e in omega (arith, t.low))
 
   -- Where a prefix breaks a rule, or its unit is not admitted, no unit stands.
-  pub none-headed : is_headed (head_of l false s) ≡ false → whole_at l s ≡ 0
+  pub none_headed : is_headed (head_of l false s) ≡ false → whole_at l s ≡ 0
   unfolding judge_in judge_by judge_head
-  none-headed e = by (head_of l false s) refl e
+  none_headed e = by (head_of l false s) refl e
     where
       by : (h : Header) → head_of l false s ≡ h → is_headed h ≡ false → whole_at l s ≡ 0
-      by (Stop n) is none = sym (none-judged {n = n} {k = 0} (rw is))
+      by (Stop n) is none = sym (none_judged {n = n} {k = 0} (rw is))
       by (Prefix id action len) is none =
           let out : eqb (admits false state id) 0 ≡ true = rw (admits_nested state id) (not-false (eqb (admit state id) 0) none) in
-          sym (none-judged {n = 7} {k = 0} (rw (is, out)))
+          sym (none_judged {n = 7} {k = 0} (rw (is, out)))
 
   -- Nor does one where the mark's first byte is not there.
-  pub none-marked : (get_or s 0 0 ≡ 0xcd → ⊥) → whole_at l s ≡ 0
+  pub none_marked : (get_or s 0 0 ≡ 0xcd → ⊥) → whole_at l s ≡ 0
   unfolding head_of marked
-  none-marked other = none-headed (rw (ne_eqb (get_or s 0 0) 0xcd other) (stopped (ltb (length s) (prefix_of l))))
+  none_marked other = none_headed (rw (ne_eqb (get_or s 0 0) 0xcd other) (stopped (ltb (length s) (prefix_of l))))
 
-  pub none-checked : (n at : ℕ) → as_answer (Refused n at) ≡ check_in l state s → Refused n at ≡ checked_of (listing_in l state s) → 0 ≡ whole_at l s
+  pub none_checked : (n at : ℕ) → as_answer (Refused n at) ≡ check_in l state s → Refused n at ≡ checked_of (listing_in l state s) → 0 ≡ whole_at l s
   unfolding as_answer listing_in
-  none-checked n at p q = none-by n (sym (ap (λ (x : Verdict). x.number) p)) (refused_numbered l s false state n at q)
+  none_checked n at p q = none_by n (sym (ap (λ (x : Verdict). x.number) p)) (refused_numbered l s false state n at q)
 
   module _ {id action len : ℕ} (e : head_of l false s ≡ Prefix id action len) where
     pub whole_within : len ≤ length s
     whole_within = (headed l false s id action len e).fit.high
 
-    pub whole-checked : (n : ℕ) → as_answer (Accepted n) ≡ check_in l state s → len ≡ whole_at l s
+    pub whole_checked : (n : ℕ) → as_answer (Accepted n) ≡ check_in l state s → len ≡ whole_at l s
     unfolding whole_at as_answer
-    whole-checked n p = (headed l false s id action len e).is_length ∙ rw (← ap (λ (x : Verdict). x.number) p)
+    whole_checked n p = (headed l false s id action len e).is_length ∙ rw (← ap (λ (x : Verdict). x.number) p)

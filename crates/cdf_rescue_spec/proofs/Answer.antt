@@ -33,11 +33,11 @@ module _ (l : Layout) (room : ℕ) (s inner : List ℕ) (runs : List Run) where
   pub passed : (rescued l room s inner runs).number ≡ 0 → Passed
   unfolding rescued
   passed e =
-      let a = past-number (ltb (length s) (prefix_of l)) _ _ (λ z. omega arith) e in
-      let b = past-number (eqb (length inner) 0) _ _ (λ z. omega arith) a.1 in
-      let c = past-number (ltb most_runs (length runs)) _ _ (λ z. omega arith) b.1 in
-      let d = past-number (ltb l.limit (prefix_of l + length inner)) _ _ (λ z. omega arith) c.1 in
-      let f = past-number (ltb room (prefix_of l + length inner)) _ _ (λ z. omega arith) d.1 in
+      let a = past_number (ltb (length s) (prefix_of l)) _ _ (λ z. omega arith) e in
+      let b = past_number (eqb (length inner) 0) _ _ (λ z. omega arith) a.1 in
+      let c = past_number (ltb most_runs (length runs)) _ _ (λ z. omega arith) b.1 in
+      let d = past_number (ltb l.limit (prefix_of l + length inner)) _ _ (λ z. omega arith) c.1 in
+      let f = past_number (ltb room (prefix_of l + length inner)) _ _ (λ z. omega arith) d.1 in
       record {
         enough = ltb-false (length s) (prefix_of l) a.0;
         some = eqb-false (length inner) 0 b.0;
@@ -46,9 +46,9 @@ module _ (l : Layout) (room : ℕ) (s inner : List ℕ) (runs : List Run) where
         fits = ltb-false room (prefix_of l + length inner) f.0;
       }
     where
-      past-number : (b : Bool) (r x : Rescued) → (r.number ≡ 0 → ⊥) → (cond b r x).number ≡ 0 → (b ≡ false) × (x.number ≡ 0)
-      past-number true r x some e = absurd (some e)
-      past-number false r x some e = (refl, e)
+      past_number : (b : Bool) (r x : Rescued) → (r.number ≡ 0 → ⊥) → (cond b r x).number ≡ 0 → (b ≡ false) × (x.number ≡ 0)
+      past_number true r x some e = absurd (some e)
+      past_number false r x some e = (refl, e)
 
   pub answers : Passed → rescued l room s inner runs ≡ record { number = 0; runs = runs; group = group_of l inner }
   unfolding rescued

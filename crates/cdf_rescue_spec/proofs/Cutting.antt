@@ -26,14 +26,14 @@ whole_within l t =
 
 module _ (l : Layout) (s : List ℕ) where
   -- By induction over the pieces, with fuel for all bytes that are left.
-  pub by-pieces : (P : ℕ → List Piece → Type 0) → ((at : ℕ) → length s ≤ at → P at []) →
+  pub by_pieces : (P : ℕ → List Piece → Type 0) → ((at : ℕ) → length s ≤ at → P at []) →
       ((at : ℕ) (ps : List Piece) → at < length s → whole_at l (drop at s) ≡ 0 → P (suc at) ps → P at (dropped at ∷ ps)) →
       ((at k : ℕ) (ps : List Piece) → whole_at l (drop at s) ≡ suc k → at + suc k ≤ length s → P (at + suc k) ps →
       P at (kept at (at + suc k) ∷ ps)) →
       (fuel at : ℕ) → length s ≤ at + fuel → P at (pieces_from fuel l s at)
   unfolding pieces_from
-  by-pieces P ends drops keeps zero at h = ends at (omega arith)
-  by-pieces P ends drops keeps (suc fuel) at h = by_end (ltb at (length s)) refl (by-pieces P ends drops keeps fuel)
+  by_pieces P ends drops keeps zero at h = ends at (omega arith)
+  by_pieces P ends drops keeps (suc fuel) at h = by_end (ltb at (length s)) refl (by_pieces P ends drops keeps fuel)
     where
       by_end : (b : Bool) → ltb at (length s) ≡ b → ((j : ℕ) → length s ≤ j + fuel → P j (pieces_from fuel l s j)) →
           P at (cond b (piece_then (pieces_from fuel l s) at (whole_at l (drop at s))) [])
@@ -47,7 +47,7 @@ module _ (l : Layout) (s : List ℕ) where
   pub covers : prefix_of l ≤ length s → Tiles (prefix_of l) (length s) (pieces l s)
   unfolding pieces
   covers =
-      by-pieces (λ at ps. at ≤ length s → Tiles at (length s) ps)
+      by_pieces (λ at ps. at ≤ length s → Tiles at (length s) ps)
       (λ at h low. omega arith)
       (λ at ps h w more low. (refl, more (omega arith)))
       (λ at k ps w h more low. (refl, omega arith, more h))
@@ -57,7 +57,7 @@ module _ (l : Layout) (s : List ℕ) where
   pub in_order : (b : ℕ) × Tiles (prefix_of l) b (pieces l s)
   unfolding pieces
   in_order =
-      by-pieces (λ at ps. (b : ℕ) × Tiles at b ps)
+      by_pieces (λ at ps. (b : ℕ) × Tiles at b ps)
       (λ at h. (at, refl))
       (λ at ps h w more. (more.0, (refl, more.1)))
       (λ at k ps w h more. (more.0, (refl, omega arith, more.1)))

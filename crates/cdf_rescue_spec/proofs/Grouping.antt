@@ -14,7 +14,7 @@ use Rattle.cdf_grammar.specs.Groups.{group_bytes}
 use Rattle.cdf_grammar.proofs.Agrees.{fits}
 use Rattle.cdf_grammar.proofs.Built.{encode_none, encode_one, length_unit, length_tree}
 use Rattle.cdf_grammar.proofs.Within.{one_root}
-use Rattle.cdf_grammar.proofs.Children.{Taken, AllTaken, group-holds}
+use Rattle.cdf_grammar.proofs.Children.{Taken, AllTaken, group_holds}
 use Rattle.cdf_rescue_spec.specs.Salvage.{Piece, kept, dropped, pieces, kept_bytes, runs_of, Rescued, group_of, rescue_of}
 use Rattle.cdf_rescue_spec.specs.Kept.{Whole, Decided, kept_units, Group}
 use Rattle.cdf_rescue_spec.proofs.Holding.{group_admits}
@@ -70,7 +70,7 @@ grouped l room s d e =
     let is : (rescue_of l room s).group ≡ group_of l inner = ap (λ (x : Rescued). x.group) answer in
     let some : kept_units s ps ≡ [] → ⊥ = λ z. p.some (ap length (kept_flat s ps ∙ ap flatten z)) in
     let within : length (group_bytes l er_group (kept_units s ps)) ≤ l.limit = rw (← kept_group, length_group) p.within in
-    let h = group-holds l er_group (inl refl) (kept_units s ps) some (all_taken l s ps d) within in
+    let h = group_holds l er_group (inl refl) (kept_units s ps) some (all_taken l s ps d) within in
     record {
       held = h.held;
       stream = subst (λ x. Stream l x (tree er_group 0 [] h.held none)) (sym (is ∙ kept_group l s ps)) h.stream;

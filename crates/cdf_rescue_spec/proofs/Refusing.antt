@@ -10,7 +10,7 @@ use Rattle.cdf_unit_prefix.specs.Layout.{Layout, prefix_of}
 use Rattle.cdf_grammar.specs.Groups.{group_bytes}
 use Rattle.cdf_rescue_spec.specs.Salvage.{Piece, kept, pieces, kept_bytes, runs_of, rescued}
 use Rattle.cdf_rescue_spec.specs.Kept.{kept_units, Refuses}
-use Rattle.cdf_rescue_spec.proofs.Cutting.{by-pieces}
+use Rattle.cdf_rescue_spec.proofs.Cutting.{by_pieces}
 use Rattle.cdf_rescue_spec.proofs.Answer.{rescue_is}
 use Rattle.cdf_rescue_spec.proofs.Grouping.{kept_flat, kept_group, length_group}
 
@@ -19,19 +19,19 @@ module _ (l : Layout) (s : List ℕ) where
   NoneKept ps = length (kept_bytes s ps) ≡ 0 → kept_units s ps ≡ []
 
   -- A piece that is kept has bytes.
-  some-kept : (at k : ℕ) (ps : List Piece) → at + suc k ≤ length s → NoneKept (kept at (at + suc k) ∷ ps)
+  some_kept : (at k : ℕ) (ps : List Piece) → at + suc k ≤ length s → NoneKept (kept at (at + suc k) ∷ ps)
   unfolding kept_bytes
-  some-kept at k ps h e =
+  some_kept at k ps h e =
       let front = take (at + suc k - at) (drop at s) in
       absurd (omega (arith, length-append front (kept_bytes s ps), length-take (at + suc k - at) (drop at s), length-drop at s))
 
   none_kept : NoneKept (pieces l s)
   unfolding pieces kept_bytes kept_units
   none_kept =
-      by-pieces l s (λ at ps. NoneKept ps)
+      by_pieces l s (λ at ps. NoneKept ps)
       (λ at h e. refl)
       (λ at ps h w more e. more e)
-      (λ at k ps w h more. some-kept at k ps h)
+      (λ at k ps w h more. some_kept at k ps h)
       (length s) (prefix_of l) (omega arith)
 
   pub refuses : (room : ℕ) → Refuses l room s

@@ -30,19 +30,19 @@ module _ (l : Layout) (s : List ℕ) where
       ap (λ ps. cond (ltb at (length s)) ps [])
       (then_same (pieces_from f l s) (pieces_from g l s) at (whole_at l (drop at s)) (λ n more. enough f g n (omega arith) (omega arith)))
 
-  pub none-at : (at : ℕ) → length s ≤ at → pieces_at at ≡ []
+  pub none_at : (at : ℕ) → length s ≤ at → pieces_at at ≡ []
   unfolding pieces_from
-  none-at at h = enough (length s) 0 at (omega arith) (omega arith)
+  none_at at h = enough (length s) 0 at (omega arith) (omega arith)
 
-  step-at : (at : ℕ) → at < length s → pieces_at at ≡ piece_then pieces_at at (whole_at l (drop at s))
+  step_at : (at : ℕ) → at < length s → pieces_at at ≡ piece_then pieces_at at (whole_at l (drop at s))
   unfolding pieces_from
-  step-at at h =
+  step_at at h =
       enough (length s) (suc (length s)) at (omega arith) (omega arith) ∙ rw (lt-ltb at (length s) h)
 
   pub drop_at : (at : ℕ) → at < length s → whole_at l (drop at s) ≡ 0 → pieces_at at ≡ dropped at ∷ pieces_at (suc at)
   unfolding piece_then
-  drop_at at h e = step-at at h ∙ rw e
+  drop_at at h e = step_at at h ∙ rw e
 
   pub keep_at : (at k : ℕ) → at < length s → whole_at l (drop at s) ≡ suc k → pieces_at at ≡ kept at (at + suc k) ∷ pieces_at (at + suc k)
   unfolding piece_then
-  keep_at at k h e = step-at at h ∙ rw e
+  keep_at at k h e = step_at at h ∙ rw e

@@ -14,11 +14,11 @@ use Rattle.cdf_grammar.specs.Trees.{Forest, none, tree, ids}
 use Rattle.cdf_grammar.specs.Published.{Conforms, production_of}
 use Rattle.cdf_grammar.specs.Encoding.{Stream, prefix_bytes, unit_bytes, encode}
 use Rattle.cdf_grammar.proofs.Built.{encode_none, encode_tree, size_of, unit_is, length_unit, length_tree}
-use Rattle.cdf_grammar.proofs.Prefixes.{length-prefix}
+use Rattle.cdf_grammar.proofs.Prefixes.{length_prefix}
 use Rattle.cdf_grammar.proofs.RowsAgree.{content_agrees}
 use Rattle.cdf_grammar.proofs.Children.{Firsts, group_kind}
 use Rattle.cdf_rescue_spec.specs.Salvage.{Piece, kept, dropped, whole_at, pieces, kept_bytes, runs_of, group_of, rescue_of}
-use Rattle.cdf_rescue_spec.proofs.Cutting.{by-pieces}
+use Rattle.cdf_rescue_spec.proofs.Cutting.{by_pieces}
 use Rattle.cdf_rescue_spec.proofs.Wholes.{tree_whole}
 use Rattle.cdf_rescue_spec.proofs.Answer.{rescue_is, group_is, answers}
 use Rattle.cdf_rescue_spec.proofs.Grouping.{length_group, group_bytes_lem, no_bytes}
@@ -34,11 +34,11 @@ module _ (l : Layout) where
       bytes : drop (at + n) s ≡ encode l rest
 
     -- Where such trees stand from a position to the end, the first is kept,
-    first-kept : (at : ℕ) → at < length s → (f : Forest) → Conforms f → Firsts (nothing er_group) (ids f) → drop at s ≡ encode l f →
+    first_kept : (at : ℕ) → at < length s → (f : Forest) → Conforms f → Firsts (nothing er_group) (ids f) → drop at s ≡ encode l f →
         Behind at (whole_at l (drop at s))
     unfolding ids
-    first-kept at h none c d is = absurd (omega (arith, ap length (is ∙ encode_none l), length-drop at s))
-    first-kept at h (tree id action text inner rest) c d is =
+    first_kept at h none c d is = absurd (omega (arith, ap length (is ∙ encode_none l), length-drop at s))
+    first_kept at h (tree id action text inner rest) c d is =
         let unit = unit_bytes l id action text (encode l inner) in
         let here : drop at s ≡ unit ++ encode l rest = is ∙ encode_tree l id action text inner rest in
         let long = ap length is ∙ length_tree l id action text inner rest in
@@ -55,33 +55,33 @@ module _ (l : Layout) where
     unfolding runs_of kept_bytes
     same_none at h f c d is = (refl, sym (drop_of_length-le s h))
 
-    same-dropped : (at : ℕ) (ps : List Piece) → at < length s → whole_at l (drop at s) ≡ 0 → Same (suc at) ps → Same at (dropped at ∷ ps)
-    same-dropped at ps h w more f c d is = absurd (omega (arith, (first-kept at h f c d is).some))
+    same_dropped : (at : ℕ) (ps : List Piece) → at < length s → whole_at l (drop at s) ≡ 0 → Same (suc at) ps → Same at (dropped at ∷ ps)
+    same_dropped at ps h w more f c d is = absurd (omega (arith, (first_kept at h f c d is).some))
 
     same_kept : (at k : ℕ) (ps : List Piece) → whole_at l (drop at s) ≡ suc k → at + suc k ≤ length s → Same (at + suc k) ps →
         Same at (kept at (at + suc k) ∷ ps)
     unfolding runs_of kept_bytes
     same_kept at k ps w h more f c d is =
-        let v : Behind at (suc k) = rw w at (first-kept at (omega arith) f c d is) in
+        let v : Behind at (suc k) = rw w at (first_kept at (omega arith) f c d is) in
         let u = more v.rest v.right v.all v.bytes in
         (u.0, rw (minus_plus (suc k) at, u.1, ← drop-drop (suc k) at s, take-append-drop))
 
-    all-kept : Same (prefix_of l) (pieces l s)
+    all_kept : Same (prefix_of l) (pieces l s)
     unfolding pieces
-    all-kept = by-pieces l s Same same_none same-dropped same_kept (length s) (prefix_of l) (omega arith)
+    all_kept = by_pieces l s Same same_none same_dropped same_kept (length s) (prefix_of l) (omega arith)
 
-  group-rest : (inner : List ℕ) → drop (prefix_of l) (group_of l inner) ≡ inner
-  group-rest inner =
+  group_rest : (inner : List ℕ) → drop (prefix_of l) (group_of l inner) ≡ inner
+  group_rest inner =
       let n = prefix_of l + (0 + length inner) in
-      rw (group_is, unit_is) (drop_at (prefix_bytes l n 0 er_group) inner (prefix_of l) (length-prefix l n 0 er_group))
+      rw (group_is, unit_is) (drop_at (prefix_bytes l n 0 er_group) inner (prefix_of l) (length_prefix l n 0 er_group))
 
-  rescued-same : (room : ℕ) (s : List ℕ) (held : Forest) → s ≡ group_of l (encode l held) → Conforms held → Firsts (nothing er_group) (ids held) →
+  rescued_same : (room : ℕ) (s : List ℕ) (held : Forest) → s ≡ group_of l (encode l held) → Conforms held → Firsts (nothing er_group) (ids held) →
       (ids held ≡ [] → ⊥) → length s ≤ l.limit → l.limit < 256 ^ l.length_bytes → length s ≤ room →
       rescue_of l room s ≡ record { number = 0; runs = []; group = s }
-  rescued-same room s held is c d some within wide fits =
-      let behind : drop (prefix_of l) s ≡ encode l held = ap (drop (prefix_of l)) is ∙ group-rest (encode l held) in
+  rescued_same room s held is c d some within wide fits =
+      let behind : drop (prefix_of l) s ≡ encode l held = ap (drop (prefix_of l)) is ∙ group_rest (encode l held) in
       let long = ap length is ∙ length_group l (encode l held) in
-      let v = all-kept s (omega arith) held c d behind in
+      let v = all_kept s (omega arith) held c d behind in
       rw (rescue_is, v.0, v.1, behind)
       (answers l room s (encode l held) [] (record {
         enough = omega arith;
@@ -100,4 +100,4 @@ module _ (l : Layout) where
       let none_done : action ≡ 0 = elim c.0.acts [ inl e ↦ e | inr e ↦ absurd e ] in
       let kind = group_kind er_group (inl refl) in
       let w = (kind.full (ids held)).0 ((content_agrees er_group kind.opens (ids held)).0 c.0.holds) in
-      rescued-same room s held (sym p.bytes ∙ (rw (none_done, c.0.says) (group_bytes_lem l held))) c.1 w.1 w.0 p.within wide fits
+      rescued_same room s held (sym p.bytes ∙ (rw (none_done, c.0.says) (group_bytes_lem l held))) c.1 w.1 w.0 p.within wide fits

@@ -21,13 +21,13 @@ module _ (l : Layout) (s r : List ℕ) (long : length s ≡ length r) where
       let at : a + (b - a) ≡ b = omega arith in
       rw at at (sym (drop-drop (b - a) a s) ∙ ap (drop (b - a)) e ∙ drop-drop (b - a) a r)
 
-  same-pieces : (fuel at : ℕ) → drop at s ≡ drop at r → pieces_from fuel l s at ≡ pieces_from fuel l r at
+  same_pieces : (fuel at : ℕ) → drop at s ≡ drop at r → pieces_from fuel l s at ≡ pieces_from fuel l r at
   unfolding pieces_from
-  same-pieces zero at e = refl
-  same-pieces (suc fuel) at e =
+  same_pieces zero at e = refl
+  same_pieces (suc fuel) at e =
       rw (long, e)
       (ap (λ (ps : List Piece). cond (ltb at (length r)) ps [])
-      (go (whole_at l (drop at r)) (λ j h. same-pieces fuel j (later at j h e))))
+      (go (whole_at l (drop at r)) (λ j h. same_pieces fuel j (later at j h e))))
     where
       go : (n : ℕ) → ((j : ℕ) → at ≤ j → pieces_from fuel l s j ≡ pieces_from fuel l r j) →
           piece_then (pieces_from fuel l s) at n ≡ piece_then (pieces_from fuel l r) at n
@@ -45,12 +45,12 @@ module _ (l : Layout) (s r : List ℕ) (long : length s ≡ length r) where
   same_answer room inner runs = rw long
 
   module _ (e : drop (prefix_of l) s ≡ drop (prefix_of l) r) where
-    same-cut : pieces l s ≡ pieces l r
+    same_cut : pieces l s ≡ pieces l r
     unfolding pieces
-    same-cut = rw long (same-pieces (length r) (prefix_of l) e)
+    same_cut = rw long (same_pieces (length r) (prefix_of l) e)
 
     pub unseen : (room : ℕ) → rescue_of l room s ≡ rescue_of l room r
     unseen room =
         let order = in_order l r in
         let bytes : kept_bytes s (pieces l r) ≡ kept_bytes r (pieces l r) = same_kept (prefix_of l) order.0 (pieces l r) order.1 e in
-        rw (rescue_is l room s, rescue_is l room r, same-cut, bytes) (same_answer room (kept_bytes r (pieces l r)) (runs_of (pieces l r)))
+        rw (rescue_is l room s, rescue_is l room r, same_cut, bytes) (same_answer room (kept_bytes r (pieces l r)) (runs_of (pieces l r)))

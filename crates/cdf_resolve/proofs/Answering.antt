@@ -22,7 +22,7 @@ use Rattle.cdf_resolve_spec.specs.declared.Tally.{Tally}
 use Rattle.cdf_resolve_spec.specs.declared.Resolved.{Resolved}
 use Rattle.cdf_resolve_spec.specs.declared.Worst.{Worst}
 use Rattle.cdf_resolve_spec.specs.declared.Worst.TheVariants.{Fine, Lacking, Doubled, Crowded}
-use Rattle.cdf_resolve_spec.proofs.Claiming.{zero-told}
+use Rattle.cdf_resolve_spec.proofs.Claiming.{zero_told}
 use Rattle.cdf_resolve_spec.proofs.Proved.{proved as claims}
 use Rattle.cdf_resolve.specs.Holding.{Passed}
 
@@ -30,9 +30,9 @@ module _ (l : Layout) (s list : List ℕ) where
   abbrev Answers : Resolved → List ℕ → Type 0
   Answers r after = (r ≡ resolved_of l s (length list)) × (after ≡ list_after l s list)
 
-  pub by-refusal : (n at : ℕ) → resolved_of l s (length list) ≡ refusal n at → (n ≡ 0 → ⊥) → (r : Resolved) → r ≡ refusal n at → Answers r list
+  pub by_refusal : (n at : ℕ) → resolved_of l s (length list) ≡ refusal n at → (n ≡ 0 → ⊥) → (r : Resolved) → r ≡ refusal n at → Answers r list
   unfolding list_after
-  by-refusal n at e some r f =
+  by_refusal n at e some r f =
       (f ∙ sym e, rw (ne_eqb (resolved_of l s (length list)).number 0 (λ z. some (sym (ap (λ (x : Resolved). x.number) e) ∙ z))))
 
   -- What the check answers,
@@ -41,19 +41,19 @@ module _ (l : Layout) (s list : List ℕ) where
     unfolding as_answer
     accepts n e = let w : record { number = 0; value = n } ≡ check_of l s = rw e at answer in sym (ap (λ (v : Verdict). v.number) w)
 
-    pub by-check : c ≡ checked_of (listing l s) → (n at : ℕ) → c ≡ Checked.Refused n at → (r : Resolved) → r ≡ refusal n at → Answers r list
+    pub by_check : c ≡ checked_of (listing l s) → (n at : ℕ) → c ≡ Checked.Refused n at → (r : Resolved) → r ≡ refusal n at → Answers r list
     unfolding as_answer listing
-    by-check is n at e r f =
+    by_check is n at e r f =
         let w : record { number = n; value = at } ≡ check_of l s = rw e at answer in
         let number = ap (λ (v : Verdict). v.number) w in
         let value = ap (λ (v : Verdict). v.value) w in
         let some : n ≡ 0 → ⊥ = refused_numbered l s true 0 n at (sym e ∙ is) in
-        by-refusal n at (claims.checked l s (length list) (λ z. some (number ∙ z)) ∙ rw (← number, ← value)) some r f
+        by_refusal n at (claims.checked l s (length list) (λ z. some (number ∙ z)) ∙ rw (← number, ← value)) some r f
 
   -- and then the root.
-  pub refused-root : Accepted l s → is_group (listing l s).units ≡ false → resolved_of l s (length list) ≡ refusal 7 0
+  pub refused_root : Accepted l s → is_group (listing l s).units ≡ false → resolved_of l s (length list) ≡ refusal 7 0
   unfolding resolved_of
-  refused-root a g = rw (eq-eqb (check_of l s).number 0 a, g)
+  refused_root a g = rw (eq-eqb (check_of l s).number 0 a, g)
 
   -- A tally that tells 0 has met nothing that is refused.
   fine : (w : Worst) (count room : ℕ) → (told_by w count room).number ≡ 0 → w ≡ Fine
@@ -72,9 +72,9 @@ module _ (l : Layout) (s list : List ℕ) where
     unfolding list_after
     by_first n = (is, rw (ne_eqb (resolved_of l s (length list)).number 0 (λ z. n (ap (λ (x : Resolved). x.number) is ∙ z))))
 
-    pub by-second : r.number ≡ 0 → (q : Tally) (after : List ℕ) → Passed l s list q after → Answers r after
+    pub by_second : r.number ≡ 0 → (q : Tally) (after : List ℕ) → Passed l s list q after → Answers r after
     unfolding list_after
-    by-second z q after w =
+    by_second z q after w =
         let zero : (resolved_of l s (length list)).number ≡ 0 = sym (ap (λ (x : Resolved). x.number) is) ∙ z in
         let short = room_for zero in (
           is,
@@ -87,4 +87,4 @@ module _ (l : Layout) (s list : List ℕ) where
         none_before = omega arith
 
         room_for : (resolved_of l s (length list)).number ≡ 0 → 0 + length (ranks_of l s) ≤ length list
-        room_for e = omega (arith, (zero-told l s (length list) e).2)
+        room_for e = omega (arith, (zero_told l s (length list) e).2)

@@ -61,17 +61,17 @@ module _ (l : Layout) (s : List ℕ) (u : Unit) where
   abbrev test_at : List Ranked → ℕ → Bool
   test_at seen i = alike_at l s u (get_or (starts_of seen) i 0) (get_or (owns_of seen) i 0)
 
-  none-held : (seen : List Ranked) → ((j : ℕ) → j < length seen → test_at seen j ≡ false) → rank_that (alike l s u) seen ≡ none
+  none_held : (seen : List Ranked) → ((j : ℕ) → j < length seen → test_at seen j ≡ false) → rank_that (alike l s u) seen ≡ none
   unfolding rank_that
-  none-held [] w = refl
-  none-held (r ∷ seen) w = rw (w 0 (omega arith)) (none-held seen (λ j h. w (suc j) (omega arith)))
+  none_held [] w = refl
+  none_held (r ∷ seen) w = rw (w 0 (omega arith)) (none_held seen (λ j h. w (suc j) (omega arith)))
 
-  one-held : (seen : List Ranked) (i : ℕ) → i < length seen → ((j : ℕ) → j < i → test_at seen j ≡ false) → test_at seen i ≡ true →
+  one_held : (seen : List Ranked) (i : ℕ) → i < length seen → ((j : ℕ) → j < i → test_at seen j ≡ false) → test_at seen i ≡ true →
       rank_that (alike l s u) seen ≡ some (get_or (ranks_of seen) i 0)
   unfolding rank_that
-  one-held [] i h w e = absurd (omega arith)
-  one-held (r ∷ seen) zero h w e = rw e
-  one-held (r ∷ seen) (suc i) h w e = rw (w 0 (omega arith)) (one-held seen i (omega arith) (λ j k. w (suc j) (omega arith)) e)
+  one_held [] i h w e = absurd (omega arith)
+  one_held (r ∷ seen) zero h w e = rw e
+  one_held (r ∷ seen) (suc i) h w e = rw (w 0 (omega arith)) (one_held seen i (omega arith) (λ j k. w (suc j) (omega arith)) e)
 
   -- By what was found in the arrays.
   module _ (n : ℕ) (seen : List Ranked) (i : ℕ)
@@ -82,10 +82,10 @@ module _ (l : Layout) (s : List ℕ) (u : Unit) where
 
     pub found_none : i ≡ length seen → held_for l s seen u ≡ none
     unfolding held_for
-    found_none e = none-held seen (λ j h. at_entry j h ∙ f.before j (omega (arith, h, e)))
+    found_none e = none_held seen (λ j h. at_entry j h ∙ f.before j (omega (arith, h, e)))
 
     pub found_some : i < length seen → held_for l s seen u ≡ some (get_or (padded n (ranks_of seen)) i 0)
     unfolding held_for
     found_some h =
-        one-held seen i h (λ j k. at_entry j (omega (arith, h, k)) ∙ f.before j k) (at_entry i h ∙ f.here h)
+        one_held seen i h (λ j k. at_entry j (omega (arith, h, k)) ∙ f.before j k) (at_entry i h ∙ f.here h)
         ∙ ap some (sym (entry n (λ (r : Ranked). r.rank) seen i h))

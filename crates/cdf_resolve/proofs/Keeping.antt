@@ -18,7 +18,7 @@ use Rattle.cdf_resolve_spec.specs.Pass.{Pass, doubled_at, lacking_at, held_for, 
 use Rattle.cdf_resolve_spec.specs.declared.Tally.{Tally}
 use Rattle.cdf_resolve_spec.specs.declared.Worst.{Worst}
 use Rattle.cdf_resolve_spec.specs.declared.Worst.TheVariants.{Crowded}
-use Rattle.cdf_resolve_spec.proofs.Passing.{add-held, longer}
+use Rattle.cdf_resolve_spec.proofs.Passing.{add_held, longer}
 use Rattle.cdf_resolve.specs.Holding.{Within, Lies, FoundAt, Ready, Keeps, Written}
 use Rattle.cdf_resolve.proofs.Finding.{up_to, entries, more_of, found_none, found_some}
 
@@ -52,19 +52,19 @@ module _ (l : Layout) (s : List ℕ) (p : Pass) (t : Tally) (starts owns ranks :
         (length p.seen) u i
     found = rw (← k.starts_are, ← k.owns_are, ← k.templates) f
 
-    kept-none : i ≡ t.templates → held_for l s p.seen u ≡ none
-    kept-none e = found_none l s u 256 p.seen i found (e ∙ k.templates)
+    kept_none : i ≡ t.templates → held_for l s p.seen u ≡ none
+    kept_none e = found_none l s u 256 p.seen i found (e ∙ k.templates)
 
-    kept-some : (i ≡ t.templates → ⊥) → held_for l s p.seen u ≡ some (get_or ranks i 0)
-    kept-some n =
+    kept_some : (i ≡ t.templates → ⊥) → held_for l s p.seen u ≡ some (get_or ranks i 0)
+    kept_some n =
         let less : i < length p.seen = omega (arith, f.within, k.templates, n) in
         rw k.ranks_are (found_some l s u 256 p.seen i found less)
 
   -- A template, where the arrays are full,
-  pub hold-full : (o : Ranked) → t.templates ≡ 256 →
+  pub hold_full : (o : Ranked) → t.templates ≡ 256 →
       Keeps l (length s) (add_of l s p o) (record { templates = t.templates; count = t.count; worst = Crowded }) starts owns ranks
   unfolding add_of
-  hold-full o e =
+  hold_full o e =
       rw (le-ltb (length p.seen) 256 (omega (arith, e, k.templates))) (record {
         few = k.few;
         templates = k.templates;
@@ -81,8 +81,8 @@ module _ (l : Layout) (s : List ℕ) (p : Pass) (t : Tally) (starts owns ranks :
     few : length p.seen < 256
     few = omega (arith, k.few, k.templates, room)
 
-    lie-more : Lies l (length s) (set starts t.templates o.unit.start) (set owns t.templates o.unit.own) (t.templates + 1)
-    lie-more =
+    lie_more : Lies l (length s) (set starts t.templates o.unit.start) (set owns t.templates o.unit.own) (t.templates + 1)
+    lie_more =
         let r = ready' in
         record {
           first = omega (arith, few, k.templates, length-set starts t.templates o.unit.start, r.0);
@@ -107,18 +107,18 @@ module _ (l : Layout) (s : List ℕ) (p : Pass) (t : Tally) (starts owns ranks :
           rw k.owns_are (entries 256 (λ (r : Ranked). r.unit.own) p.seen k.few),
         )
 
-    hold-more : (worst : Worst) →
+    hold_more : (worst : Worst) →
         worst ≡ cond (is_there (held_for l s p.seen o.unit)) (doubled_at p.worst o.unit.start) p.worst →
         Keeps l (length s) (add_of l s p o) (record { templates = t.templates + 1; count = t.count; worst = worst })
         (set starts t.templates o.unit.start) (set owns t.templates o.unit.own) (set ranks t.templates o.rank)
-    hold-more worst e =
+    hold_more worst e =
         let size = longer l s p.seen o in
-        rw (add-held l s p o few) (record {
+        rw (add_held l s p o few) (record {
           few = omega (arith, size, few);
           templates = omega (arith, size, k.templates);
           count = k.count;
           worst = e;
-          lies = lie-more;
+          lies = lie_more;
           starts_are = rw k.starts_are (set_more (λ (r : Ranked). r.unit.start) p.seen o t.templates k.templates few);
           owns_are = rw k.owns_are (set_more (λ (r : Ranked). r.unit.own) p.seen o t.templates k.templates few);
           ranks_are = rw k.ranks_are (set_more (λ (r : Ranked). r.rank) p.seen o t.templates k.templates few);
@@ -126,18 +126,18 @@ module _ (l : Layout) (s : List ℕ) (p : Pass) (t : Tally) (starts owns ranks :
 
     -- It is the first with its name and number, or doubled.
     module _ (i : ℕ) (f : FoundAt l s starts owns t.templates o.unit i) where
-      pub hold-new : i ≡ t.templates →
+      pub hold_new : i ≡ t.templates →
           Keeps l (length s) (add_of l s p o) (record { templates = t.templates + 1; count = t.count; worst = t.worst })
           (set starts t.templates o.unit.start) (set owns t.templates o.unit.own) (set ranks t.templates o.rank)
       unfolding is_there
-      hold-new e = hold-more t.worst (rw (kept-none o.unit i f e) k.worst)
+      hold_new e = hold_more t.worst (rw (kept_none o.unit i f e) k.worst)
 
-      pub hold-doubled : (i ≡ t.templates → ⊥) →
+      pub hold_doubled : (i ≡ t.templates → ⊥) →
           Keeps l (length s) (add_of l s p o)
           (record { templates = t.templates + 1; count = t.count; worst = doubled_at t.worst o.unit.start })
           (set starts t.templates o.unit.start) (set owns t.templates o.unit.own) (set ranks t.templates o.rank)
       unfolding is_there
-      hold-doubled n = hold-more _ (rw (kept-some o.unit i f n, k.worst))
+      hold_doubled n = hold_more _ (rw (kept_some o.unit i f n, k.worst))
 
   -- An entity key without a template, and with one.
   module _ (o : Ranked) (before list : List ℕ) (written : Written before p list) (i : ℕ) (f : FoundAt l s starts owns t.templates o.unit i) where
@@ -150,7 +150,7 @@ module _ (l : Layout) (s : List ℕ) (p : Pass) (t : Tally) (starts owns ranks :
         Next (record { templates = t.templates; count = t.count; worst = lacking_at t.worst o.unit.start }) list
     unfolding tell_of
     tell_none e =
-        rw (kept-none o.unit i f e) (
+        rw (kept_none o.unit i f e) (
           record {
             few = k.few;
             templates = k.templates;
@@ -164,13 +164,13 @@ module _ (l : Layout) (s : List ℕ) (p : Pass) (t : Tally) (starts owns ranks :
           written,
         )
 
-    pub tell-rank : (i ≡ t.templates → ⊥) →
+    pub tell_rank : (i ≡ t.templates → ⊥) →
         Next (record { templates = t.templates; count = t.count + 1; worst = t.worst }) (set list t.count (get_or ranks i 0))
     unfolding tell_of
-    tell-rank n =
+    tell_rank n =
         let size = length-append p.ranks (get_or ranks i 0 ∷ []) in
         let at : t.count ≡ 0 + length p.ranks = omega (arith, k.count) in
-        rw (kept-some o.unit i f n) (
+        rw (kept_some o.unit i f n) (
           record {
             few = k.few;
             templates = k.templates;

@@ -22,7 +22,7 @@ use Rattle.cdf_reader_spec.specs.Place.{fits}
 use Rattle.cdf_reader_spec.specs.Calls.{Reply, first_of, next_of}
 use Rattle.cdf_reader_runs.specs.Runs.{Outcome, outcome, afterwards, due}
 use Rattle.cdf_reader_runs.proofs.Readings.{begins}
-use Rattle.cdf_reader_runs.proofs.Further.{first-later, next-later}
+use Rattle.cdf_reader_runs.proofs.Further.{first_later, next_later}
 use Rattle.cdf_reader_runs.proofs.Folding.{Going, begun, turned, over}
 use Rattle.cdf_reader_runs.proofs.Looping as loop
 use Rattle.cdf_lookup_spec.specs.Find.{is_group}
@@ -32,7 +32,7 @@ use Rattle.cdf_resolve_spec.specs.declared.Tally.{Tally}
 use Rattle.cdf_resolve_spec.specs.declared.Worst.TheVariants.{Fine}
 use Rattle.cdf_resolve_spec.proofs.Leading.{Owner}
 use Rattle.cdf_resolve_spec.proofs.Pairing.{Pairs, Orderly}
-use Rattle.cdf_resolve_spec.proofs.Deciding.{met, pass-is, told_is, ranks_are}
+use Rattle.cdf_resolve_spec.proofs.Deciding.{met, pass_is, told_is, ranks_are}
 use Rattle.cdf_resolve.specs.Holding.{Within, Ready, OwnerLies, Keeps, Written, Meets, Passed}
 use Rattle.cdf_resolve.proofs.Keeping.{ready}
 
@@ -68,20 +68,20 @@ one_more l s p o id =
 
 module _ (l : Layout) (s : List ℕ) (o : Orderly l s) (group : is_group (listing l s).units ≡ true) where
   -- The root is no key.
-  root-other : (u : Unit) (us : List Unit) → (listing l s).units ≡ u ∷ us → u.id ≡ temporary_key → ⊥
+  root_other : (u : Unit) (us : List Unit) → (listing l s).units ≡ u ∷ us → u.id ≡ temporary_key → ⊥
   unfolding is_group
-  root-other u us e z = let id = eqb-true u.id er_group (ap is_group (sym e) ∙ group) in omega (arith, id, z)
+  root_other u us e z = let id = eqb-true u.id er_group (ap is_group (sym e) ∙ group) in omega (arith, id, z)
 
   -- The unit before the one in hand: its name, and the number behind that, lie in the bytes.
   module _ (first : Ranked) (a : Reply) (w : Walk) (g : Going (step_of l s) l s (walk_at first nothing_met) a w) (z : a.number ≡ 0) where
-    pub owner-lies : OwnerLies l (length s) a.handed.unit.id w.last.unit
+    pub owner_lies : OwnerLies l (length s) a.handed.unit.id w.last.unit
     unfolding step_of standing
-    owner-lies key owner = go g.before refl
+    owner_lies key owner = go g.before refl
       where
         go : (before : List Unit) → g.before ≡ before → Within l (length s) w.last.unit.start w.last.unit.own
         go [] e =
             let t = loop.turned l s g.before a g.going z in
-            absurd (root-other a.handed.unit _ (t.next.all ∙ ap (λ b. reverse_aux b (a.handed.unit ∷ t.next.units)) e) key)
+            absurd (root_other a.handed.unit _ (t.next.all ∙ ap (λ b. reverse_aux b (a.handed.unit ∷ t.next.units)) e) key)
         go (u ∷ us) e =
             let t = loop.turned l s g.before a g.going z in
             let has = rw e at g.has in
@@ -102,7 +102,7 @@ module _ (l : Layout) (s : List ℕ) (o : Orderly l s) (group : is_group (listin
       Written before w.pass after → Accepted l s → Passed l s before t after
   passed first a w g end before after t starts owns ranks k written accepted =
       let all : w.pass ≡ met l s o =
-      sym (ap (λ (x : Walk). x.pass) (over (step_of l s) l s (walk_at first nothing_met) a w g end).all) ∙ pass-is l s o first group in
+      sym (ap (λ (x : Walk). x.pass) (over (step_of l s) l s (walk_at first nothing_met) a w g end).all) ∙ pass_is l s o first group in
       record {
         answer = λ room. rw (k.worst, k.count, all) (told_is l s o room accepted group);
         ranks = λ e.
@@ -119,9 +119,9 @@ module _ (l : Layout) (s : List ℕ) (o : Orderly l s) (group : is_group (listin
     pub written : Written before pass list
     pub count : a.number ≡ 0 → (t.count ≤ a.place.position) × (a.place.position ≤ length s)
 
-  pub walk-begun : (before : List ℕ) (a : Reply) → a ≡ first_of l s →
+  pub walk_begun : (before : List ℕ) (a : Reply) → a ≡ first_of l s →
       Walking before a a.handed (record { templates = 0; count = 0; worst = Fine }) (replicate 256 0) (replicate 256 0) (replicate 256 0) before
-  walk-begun before a e = record {
+  walk_begun before a e = record {
     first = a.handed;
     pass = nothing_met;
     going = begun (step_of l s) l s (walk_at a.handed nothing_met) a e;
@@ -136,46 +136,46 @@ module _ (l : Layout) (s : List ℕ) (o : Orderly l s) (group : is_group (listin
       ranks_are = refl;
     };
     written = refl;
-    count = λ z. let later = (rw (← e) at (first-later l s)) z in (omega arith, later.1);
+    count = λ z. let later = (rw (← e) at (first_later l s)) z in (omega arith, later.1);
   }
 
   module _ (before : List ℕ) (a : Reply) (owner : Ranked) (t : Tally) (starts owns ranks list : List ℕ)
       (w : Walking before a owner t starts owns ranks list) where
     -- Behind the last unit.
-    pub walk-over : (a.number ≡ 0 → ⊥) → Accepted l s → Passed l s before t list
-    walk-over end accepted =
+    pub walk_over : (a.number ≡ 0 → ⊥) → Accepted l s → Passed l s before t list
+    walk_over end accepted =
         passed w.first a (walk_at owner w.pass) w.going end before list t starts owns ranks w.keeps w.written accepted
 
     module _ (z : a.number ≡ 0) where
-      pub walk-ready : Ready l (length s) t starts owns ranks
-      walk-ready = ready l s w.pass t starts owns ranks w.keeps (omega (arith, (w.count z).0, (w.count z).1))
+      pub walk_ready : Ready l (length s) t starts owns ranks
+      walk_ready = ready l s w.pass t starts owns ranks w.keeps (omega (arith, (w.count z).0, (w.count z).1))
 
-      pub walk-lies : OwnerLies l (length s) a.handed.unit.id owner.unit
-      walk-lies = owner-lies w.first a (walk_at owner w.pass) w.going z
+      pub walk_lies : OwnerLies l (length s) a.handed.unit.id owner.unit
+      walk_lies = owner_lies w.first a (walk_at owner w.pass) w.going z
 
-      pub walk-fits : fits l (length s) a.place ≡ true
-      walk-fits = (turned (step_of l s) l s (walk_at w.first nothing_met) a (walk_at owner w.pass) w.going z).fit
+      pub walk_fits : fits l (length s) a.place ≡ true
+      walk_fits = (turned (step_of l s) l s (walk_at w.first nothing_met) a (walk_at owner w.pass) w.going z).fit
 
-      next-going : Going (step_of l s) l s (walk_at w.first nothing_met) (next_of l s a.place)
+      next_going : Going (step_of l s) l s (walk_at w.first nothing_met) (next_of l s a.place)
           (walk_at a.handed (cond (eqb a.handed.unit.id temporary_key) (met_of l s w.pass owner) w.pass))
       unfolding step_of
-      next-going = (turned (step_of l s) l s (walk_at w.first nothing_met) a (walk_at owner w.pass) w.going z).next
+      next_going = (turned (step_of l s) l s (walk_at w.first nothing_met) a (walk_at owner w.pass) w.going z).next
 
       -- One unit is met.
-      pub walk-on : (r : Tally) (starts' owns' ranks' list' : List ℕ) →
+      pub walk_on : (r : Tally) (starts' owns' ranks' list' : List ℕ) →
           Meets l s owner a.handed.unit.id t starts owns ranks list r starts' owns' ranks' list' →
           Walking before (next_of l s a.place) a.handed r starts' owns' ranks' list'
-      walk-on r starts' owns' ranks' list' m =
+      walk_on r starts' owns' ranks' list' m =
           let now = m before w.pass w.keeps w.written in
           let more = one_more l s w.pass owner a.handed.unit.id in
           record {
             first = w.first;
             pass = cond (eqb a.handed.unit.id temporary_key) (met_of l s w.pass owner) w.pass;
-            going = next-going;
+            going = next_going;
             keeps = now.0;
             written = now.1;
             count = λ y.
-                let later = next-later l s a.place y in
+                let later = next_later l s a.place y in
                 (omega (arith, later.0, more, now.0.count, w.keeps.count, (w.count z).0), later.1);
           }
 
@@ -191,20 +191,20 @@ module _ (l : Layout) (s : List ℕ) (o : Orderly l s) (group : is_group (listin
 
 -- A unit with a key behind it, by its kind.
 module _ (l : Layout) (s : List ℕ) (p : Pass) (o : Ranked) (id : ℕ) where
-  pub meet-none : (id ≡ temporary_key → ⊥) → cond (eqb id temporary_key) (met_of l s p o) p ≡ p
-  meet-none n = rw (ne_eqb id temporary_key n)
+  pub meet_none : (id ≡ temporary_key → ⊥) → cond (eqb id temporary_key) (met_of l s p o) p ≡ p
+  meet_none n = rw (ne_eqb id temporary_key n)
 
   module _ (key : id ≡ temporary_key) where
-    pub meet-template : o.unit.id ≡ template → cond (eqb id temporary_key) (met_of l s p o) p ≡ add_of l s p o
+    pub meet_template : o.unit.id ≡ template → cond (eqb id temporary_key) (met_of l s p o) p ≡ add_of l s p o
     unfolding met_of
-    meet-template e = rw (eq-eqb id temporary_key key, eq-eqb o.unit.id template e)
+    meet_template e = rw (eq-eqb id temporary_key key, eq-eqb o.unit.id template e)
 
     module _ (n : o.unit.id ≡ template → ⊥) where
-      pub meet-key : o.unit.id ≡ entity_key →
+      pub meet_key : o.unit.id ≡ entity_key →
           cond (eqb id temporary_key) (met_of l s p o) p ≡ tell_of p o (held_for l s p.seen o.unit)
       unfolding met_of
-      meet-key e = rw (eq-eqb id temporary_key key, ne_eqb o.unit.id template n, eq-eqb o.unit.id entity_key e)
+      meet_key e = rw (eq-eqb id temporary_key key, ne_eqb o.unit.id template n, eq-eqb o.unit.id entity_key e)
 
-      pub meet-other : (o.unit.id ≡ entity_key → ⊥) → cond (eqb id temporary_key) (met_of l s p o) p ≡ p
+      pub meet_other : (o.unit.id ≡ entity_key → ⊥) → cond (eqb id temporary_key) (met_of l s p o) p ≡ p
       unfolding met_of
-      meet-other m = rw (eq-eqb id temporary_key key, ne_eqb o.unit.id template n, ne_eqb o.unit.id entity_key m)
+      meet_other m = rw (eq-eqb id temporary_key key, ne_eqb o.unit.id template n, ne_eqb o.unit.id entity_key m)

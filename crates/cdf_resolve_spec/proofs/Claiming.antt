@@ -25,7 +25,7 @@ use Rattle.cdf_resolve_spec.specs.Resolve.{list_after}
 use Rattle.cdf_resolve_spec.specs.Words.{In, Count, Unstored, Doubled, Lacking, Ranks}
 use Rattle.cdf_resolve_spec.specs.Claims.{Eligible}
 use Rattle.cdf_resolve_spec.specs.declared.Resolved.{Resolved}
-use Rattle.cdf_resolve_spec.proofs.Saying.{first_in, count_is, is-count, unstored-tells, doubled-tells, lacking-tells, ranks-told}
+use Rattle.cdf_resolve_spec.proofs.Saying.{first_in, count_is, is_count, unstored_tells, doubled_tells, lacking_tells, ranks_told}
 
 -- None of these has a property that one of them has.
 pub none_in : (P : Unit → Type 0) (us : List Unit) (u : Unit) → None P us → In u us → P u → ⊥
@@ -79,22 +79,22 @@ module _ (l : Layout) (s : List ℕ) where
         of_cond P (ltb 256 templates) _ _ (λ m. c.many accepted group (ltb-true 256 _ m))
         (λ m. met P c (accepted, group, ltb-false 256 _ m) _ _ refl refl)))
 
-    pub check-first : (Accepted l s → ⊥) → resolved_of l s room ≡ refusal (check_of l s).number (check_of l s).value
+    pub check_first : (Accepted l s → ⊥) → resolved_of l s room ≡ refusal (check_of l s).number (check_of l s).value
     unfolding resolved_of
-    check-first n = rw (ne_eqb (check_of l s).number 0 n)
+    check_first n = rw (ne_eqb (check_of l s).number 0 n)
 
     -- A number that the check does not have.
-    not-checked : (n : ℕ) → (Accepted l s → ⊥) → (n ≡ 0) ⊎ (10 < n) → (check_of l s).number ≡ n → ⊥
-    not-checked n a (inl z) e = a (e ∙ z)
-    not-checked n a (inr z) e = omega (arith, check_numbers l s a, e)
+    not_checked : (n : ℕ) → (Accepted l s → ⊥) → (n ≡ 0) ⊎ (10 < n) → (check_of l s).number ≡ n → ⊥
+    not_checked n a (inl z) e = a (e ∙ z)
+    not_checked n a (inr z) e = omega (arith, check_numbers l s a, e)
 
-    no-group : is_group all ≡ false → Grouped l s → ⊥
-    no-group x g = false≢true (sym x ∙ group_test l s g)
+    no_group : is_group all ≡ false → Grouped l s → ⊥
+    no_group x g = false≢true (sym x ∙ group_test l s g)
 
     pub seven_is : Accepted l s → ((resolved_of l s room).number ≡ 7) ↔ (Grouped l s → ⊥)
     seven_is a = answered (λ r. (r.number ≡ 7) ↔ (Grouped l s → ⊥)) (record {
       checked = λ n. absurd (n a);
-      seven = λ b g. ((λ z. no-group g), λ z. refl);
+      seven = λ b g. ((λ z. no_group g), λ z. refl);
       many = λ b g h. ((λ z. absurd (omega arith)), λ n. absurd (n (grouped l s g)));
       doubled = λ w t e. ((λ z. absurd (omega arith)), λ n. absurd (n (grouped l s w.1)));
       lacking = λ w d u e. ((λ z. absurd (omega arith)), λ n. absurd (n (grouped l s w.1)));
@@ -102,10 +102,10 @@ module _ (l : Layout) (s : List ℕ) where
       fine = λ w c h. ((λ z. absurd (omega arith)), λ n. absurd (n (grouped l s w.1)));
     })
 
-    many-are : Accepted l s → Grouped l s → ((resolved_of l s room).number ≡ 18) ↔ (256 < templates)
-    many-are a g = answered (λ r. (r.number ≡ 18) ↔ (256 < templates)) (record {
+    many_are : Accepted l s → Grouped l s → ((resolved_of l s room).number ≡ 18) ↔ (256 < templates)
+    many_are a g = answered (λ r. (r.number ≡ 18) ↔ (256 < templates)) (record {
       checked = λ n. absurd (n a);
-      seven = λ b x. absurd (no-group x g);
+      seven = λ b x. absurd (no_group x g);
       many = λ b x h. ((λ z. h), λ z. refl);
       doubled = λ w t e. ((λ z. absurd (omega arith)), λ h. absurd (omega (arith, w.2)));
       lacking = λ w d u e. ((λ z. absurd (omega arith)), λ h. absurd (omega (arith, w.2)));
@@ -115,7 +115,7 @@ module _ (l : Layout) (s : List ℕ) where
 
     pub many_is : Accepted l s → Grouped l s →
         (n : ℕ) × Count (Unstored l s) all n × (((resolved_of l s room).number ≡ 18) ↔ (256 < n))
-    many_is a g = (templates, count_is (unstored l s) (Unstored l s) (unstored-tells l s) all, many-are a g)
+    many_is a g = (templates, count_is (unstored l s) (Unstored l s) (unstored_tells l s) all, many_are a g)
 
     -- What is told of an eligible group: cases that are none of it are refuted.
     pub record Told (P : Resolved → Type 0) : Type 0 where
@@ -126,25 +126,25 @@ module _ (l : Layout) (s : List ℕ) where
     pub told : (P : Resolved → Type 0) → Eligible l s → Told P → P (resolved_of l s room)
     told P (a, g, (n, c, few)) w = answered P (record {
       checked = λ x. absurd (x a);
-      seven = λ b x. absurd (no-group x g);
-      many = λ b x h. absurd (omega (arith, is-count (unstored l s) (Unstored l s) (unstored-tells l s) c, few, h));
+      seven = λ b x. absurd (no_group x g);
+      many = λ b x h. absurd (omega (arith, is_count (unstored l s) (Unstored l s) (unstored_tells l s) c, few, h));
       doubled = λ x. w.doubled;
       lacking = λ x. w.lacking;
       short = λ x c h. w.clean c _ (inr refl);
       fine = λ x c h. w.clean c _ (inl refl);
     })
 
-    pub first-doubled : (t : Unit) → first_that (is_doubled l s) all ≡ some t → First (Doubled l s) t all
-    first-doubled t e = first_some (is_doubled l s) (Doubled l s) (doubled-tells l s) all t e
+    pub first_doubled : (t : Unit) → first_that (is_doubled l s) all ≡ some t → First (Doubled l s) t all
+    first_doubled t e = first_some (is_doubled l s) (Doubled l s) (doubled_tells l s) all t e
 
-    pub no-doubled : first_that (is_doubled l s) all ≡ none → None (Doubled l s) all
-    no-doubled e = first_none (is_doubled l s) (Doubled l s) (doubled-tells l s) all e
+    pub no_doubled : first_that (is_doubled l s) all ≡ none → None (Doubled l s) all
+    no_doubled e = first_none (is_doubled l s) (Doubled l s) (doubled_tells l s) all e
 
-    pub first-lacking : (u : Unit) → first_that (is_lacking l s) all ≡ some u → First (Lacking l s) u all
-    first-lacking u e = first_some (is_lacking l s) (Lacking l s) (lacking-tells l s) all u e
+    pub first_lacking : (u : Unit) → first_that (is_lacking l s) all ≡ some u → First (Lacking l s) u all
+    first_lacking u e = first_some (is_lacking l s) (Lacking l s) (lacking_tells l s) all u e
 
-    no-lacking : first_that (is_lacking l s) all ≡ none → None (Lacking l s) all
-    no-lacking e = first_none (is_lacking l s) (Lacking l s) (lacking-tells l s) all e
+    no_lacking : first_that (is_lacking l s) all ≡ none → None (Lacking l s) all
+    no_lacking e = first_none (is_lacking l s) (Lacking l s) (lacking_tells l s) all e
 
     abbrev SomeDoubled : Type 0
     SomeDoubled = (t : Unit) × In t all × Doubled l s t
@@ -157,51 +157,51 @@ module _ (l : Layout) (s : List ℕ) where
     neither r n h (inl x) e = omega arith
     neither r n h (inr x) e = omega arith
 
-    pub nineteen-is : Eligible l s → ((resolved_of l s room).number ≡ 19) ↔ SomeDoubled
-    nineteen-is eligible = told (λ r. (r.number ≡ 19) ↔ SomeDoubled) eligible (record {
-      doubled = λ t e. let f = first_in (first-doubled t e) in ((λ z. (t, f.0, f.1)), λ z. refl);
-      lacking = λ d u e. ((λ z. absurd (omega arith)), λ x. absurd (none_in (Doubled l s) all x.0 (no-doubled d) x.1 x.2));
+    pub nineteen_is : Eligible l s → ((resolved_of l s room).number ≡ 19) ↔ SomeDoubled
+    nineteen_is eligible = told (λ r. (r.number ≡ 19) ↔ SomeDoubled) eligible (record {
+      doubled = λ t e. let f = first_in (first_doubled t e) in ((λ z. (t, f.0, f.1)), λ z. refl);
+      lacking = λ d u e. ((λ z. absurd (omega arith)), λ x. absurd (none_in (Doubled l s) all x.0 (no_doubled d) x.1 x.2));
       clean = λ c r is.
-          ((λ z. absurd (neither r 19 (omega arith) is z)), λ x. absurd (none_in (Doubled l s) all x.0 (no-doubled c.0) x.1 x.2));
+          ((λ z. absurd (neither r 19 (omega arith) is z)), λ x. absurd (none_in (Doubled l s) all x.0 (no_doubled c.0) x.1 x.2));
     })
 
-    pub twenty-is : Eligible l s → ((resolved_of l s room).number ≡ 20) ↔ (None (Doubled l s) all × SomeLacking)
-    twenty-is eligible = told (λ r. (r.number ≡ 20) ↔ (None (Doubled l s) all × SomeLacking)) eligible (record {
+    pub twenty_is : Eligible l s → ((resolved_of l s room).number ≡ 20) ↔ (None (Doubled l s) all × SomeLacking)
+    twenty_is eligible = told (λ r. (r.number ≡ 20) ↔ (None (Doubled l s) all × SomeLacking)) eligible (record {
       doubled = λ t e.
-          let f = first_in (first-doubled t e) in
+          let f = first_in (first_doubled t e) in
           ((λ z. absurd (omega arith)), λ x. absurd (none_in (Doubled l s) all t x.0 f.0 f.1));
-      lacking = λ d u e. let f = first_in (first-lacking u e) in ((λ z. (no-doubled d, (u, f.0, f.1))), λ z. refl);
+      lacking = λ d u e. let f = first_in (first_lacking u e) in ((λ z. (no_doubled d, (u, f.0, f.1))), λ z. refl);
       clean = λ c r is. (
         (λ z. absurd (neither r 20 (omega arith) is z)),
-        λ x. absurd (none_in (Lacking l s) all x.1.0 (no-lacking c.1) x.1.1 x.1.2),
+        λ x. absurd (none_in (Lacking l s) all x.1.0 (no_lacking c.1) x.1.1 x.1.2),
       );
     })
 
-    pub doubled-first : (resolved_of l s room).number ≡ 19 → (t : Unit) × First (Doubled l s) t all × ((resolved_of l s room).offset ≡ t.start)
-    doubled-first = answered (λ r. r.number ≡ 19 → (t : Unit) × First (Doubled l s) t all × (r.offset ≡ t.start)) (record {
-      checked = λ n e. absurd (not-checked 19 n (inr (omega arith)) e);
+    pub doubled_first : (resolved_of l s room).number ≡ 19 → (t : Unit) × First (Doubled l s) t all × ((resolved_of l s room).offset ≡ t.start)
+    doubled_first = answered (λ r. r.number ≡ 19 → (t : Unit) × First (Doubled l s) t all × (r.offset ≡ t.start)) (record {
+      checked = λ n e. absurd (not_checked 19 n (inr (omega arith)) e);
       seven = λ b g e. absurd (omega arith);
       many = λ b g h e. absurd (omega arith);
-      doubled = λ w t e z. (t, first-doubled t e, refl);
+      doubled = λ w t e z. (t, first_doubled t e, refl);
       lacking = λ w d u e z. absurd (omega arith);
       short = λ w c h z. absurd (omega arith);
       fine = λ w c h z. absurd (omega arith);
     })
 
-    pub lacking-first : (resolved_of l s room).number ≡ 20 → (u : Unit) × First (Lacking l s) u all × ((resolved_of l s room).offset ≡ u.start)
-    lacking-first = answered (λ r. r.number ≡ 20 → (u : Unit) × First (Lacking l s) u all × (r.offset ≡ u.start)) (record {
-      checked = λ n e. absurd (not-checked 20 n (inr (omega arith)) e);
+    pub lacking_first : (resolved_of l s room).number ≡ 20 → (u : Unit) × First (Lacking l s) u all × ((resolved_of l s room).offset ≡ u.start)
+    lacking_first = answered (λ r. r.number ≡ 20 → (u : Unit) × First (Lacking l s) u all × (r.offset ≡ u.start)) (record {
+      checked = λ n e. absurd (not_checked 20 n (inr (omega arith)) e);
       seven = λ b g e. absurd (omega arith);
       many = λ b g h e. absurd (omega arith);
       doubled = λ w t e z. absurd (omega arith);
-      lacking = λ w d u e z. (u, first-lacking u e, refl);
+      lacking = λ w d u e z. (u, first_lacking u e, refl);
       short = λ w c h z. absurd (omega arith);
       fine = λ w c h z. absurd (omega arith);
     })
 
-    pub offset-none : Accepted l s → ((resolved_of l s room).number ≡ 19 → ⊥) → ((resolved_of l s room).number ≡ 20 → ⊥) →
+    pub offset_none : Accepted l s → ((resolved_of l s room).number ≡ 19 → ⊥) → ((resolved_of l s room).number ≡ 20 → ⊥) →
         (resolved_of l s room).offset ≡ 0
-    offset-none a = answered (λ r. (r.number ≡ 19 → ⊥) → (r.number ≡ 20 → ⊥) → r.offset ≡ 0) (record {
+    offset_none a = answered (λ r. (r.number ≡ 19 → ⊥) → (r.number ≡ 20 → ⊥) → r.offset ≡ 0) (record {
       checked = λ n. absurd (n a);
       seven = λ b g x y. refl;
       many = λ b g h x y. refl;
@@ -213,11 +213,11 @@ module _ (l : Layout) (s : List ℕ) where
 
     ranks : Clean → Ranks l s all (ranks_of l s)
     unfolding ranks_of
-    ranks c = ranks-told l s all c.1
+    ranks c = ranks_told l s all c.1
 
-    pub short-is : (resolved_of l s room).number ≡ 12 → (ns : List ℕ) × Ranks l s all ns × (room < length ns)
-    short-is = answered (λ r. r.number ≡ 12 → (ns : List ℕ) × Ranks l s all ns × (room < length ns)) (record {
-      checked = λ n e. absurd (not-checked 12 n (inr (omega arith)) e);
+    pub short_is : (resolved_of l s room).number ≡ 12 → (ns : List ℕ) × Ranks l s all ns × (room < length ns)
+    short_is = answered (λ r. r.number ≡ 12 → (ns : List ℕ) × Ranks l s all ns × (room < length ns)) (record {
+      checked = λ n e. absurd (not_checked 12 n (inr (omega arith)) e);
       seven = λ b g e. absurd (omega arith);
       many = λ b g h e. absurd (omega arith);
       doubled = λ w t e z. absurd (omega arith);
@@ -226,8 +226,8 @@ module _ (l : Layout) (s : List ℕ) where
       fine = λ w c h z. absurd (omega arith);
     })
 
-    pub none-counted : ((resolved_of l s room).number ≡ 0 → ⊥) → (resolved_of l s room).count ≡ 0
-    none-counted = answered (λ r. (r.number ≡ 0 → ⊥) → r.count ≡ 0) (record {
+    pub none_counted : ((resolved_of l s room).number ≡ 0 → ⊥) → (resolved_of l s room).count ≡ 0
+    none_counted = answered (λ r. (r.number ≡ 0 → ⊥) → r.count ≡ 0) (record {
       checked = λ n x. refl;
       seven = λ b g x. refl;
       many = λ b g h x. refl;
@@ -237,9 +237,9 @@ module _ (l : Layout) (s : List ℕ) where
       fine = λ w c h x. absurd (x refl);
     })
 
-    pub zero-told : (resolved_of l s room).number ≡ 0 →
+    pub zero_told : (resolved_of l s room).number ≡ 0 →
         Ranks l s all (ranks_of l s) × ((resolved_of l s room).count ≡ length (ranks_of l s)) × (length (ranks_of l s) ≤ room)
-    zero-told = answered (λ r. r.number ≡ 0 → Ranks l s all (ranks_of l s) × (r.count ≡ length (ranks_of l s)) × (length (ranks_of l s) ≤ room)) (record {
+    zero_told = answered (λ r. r.number ≡ 0 → Ranks l s all (ranks_of l s) × (r.count ≡ length (ranks_of l s)) × (length (ranks_of l s) ≤ room)) (record {
       checked = λ n e. absurd (n e);
       seven = λ b g e. absurd (omega arith);
       many = λ b g h e. absurd (omega arith);
@@ -249,14 +249,14 @@ module _ (l : Layout) (s : List ℕ) where
       fine = λ w c h z. (ranks c, refl, h);
     })
 
-  pub ranks-told-by : (list : List ℕ) → (resolved_of l s (length list)).number ≡ 0 →
+  pub ranks_told_by : (list : List ℕ) → (resolved_of l s (length list)).number ≡ 0 →
       (ns : List ℕ) × Ranks l s all ns × ((resolved_of l s (length list)).count ≡ length ns)
       × (length ns ≤ length list) × (list_after l s list ≡ ns ++ drop (length ns) list)
   unfolding list_after
-  ranks-told-by list e =
-      let w = zero-told (length list) e in
+  ranks_told_by list e =
+      let w = zero_told (length list) e in
       (ranks_of l s, w.0, w.1, w.2, rw (eq-eqb (resolved_of l s (length list)).number 0 e))
 
-  pub list-stays : (list : List ℕ) → ((resolved_of l s (length list)).number ≡ 0 → ⊥) → list_after l s list ≡ list
+  pub list_stays : (list : List ℕ) → ((resolved_of l s (length list)).number ≡ 0 → ⊥) → list_after l s list ≡ list
   unfolding list_after
-  list-stays list n = rw (ne_eqb (resolved_of l s (length list)).number 0 n)
+  list_stays list n = rw (ne_eqb (resolved_of l s (length list)).number 0 n)

@@ -25,9 +25,9 @@ use Rattle.cdf_resolve_spec.specs.Resolve.{ranks_from, ranks_of, refusal, refuse
 use Rattle.cdf_resolve_spec.specs.Pass.{Pass, nothing_met, doubled_at, lacking_at, held_for, add_of, tell_of, Walk, walk_at, step_of, told_by}
 use Rattle.cdf_resolve_spec.specs.declared.Worst.{Worst}
 use Rattle.cdf_resolve_spec.specs.declared.Worst.TheVariants.{Fine, Lacking, Doubled, Crowded}
-use Rattle.cdf_resolve_spec.proofs.Pairing.{Orderly, Pairs, Numbered, AllNumbered, all-numbered}
+use Rattle.cdf_resolve_spec.proofs.Pairing.{Orderly, Pairs, Numbered, AllNumbered, all_numbered}
 use Rattle.cdf_resolve_spec.proofs.Meaning.{units, units_are, Done, done_on, done_more, held, held_more, meant_held}
-use Rattle.cdf_resolve_spec.proofs.Passing.{meet_of, step-fold, tell-seen, add-held, longer, many}
+use Rattle.cdf_resolve_spec.proofs.Passing.{meet_of, step_fold, tell_seen, add_held, longer, many}
 
 -- The gravest so far, with the first doubled template and the first entity key without one of those that come.
 unfoldable pub graver : Worst → Option Unit → Option Unit → Worst
@@ -67,29 +67,29 @@ module _ (l : Layout) (s : List ℕ) where
   all = (listing l s).units
 
   -- A template is no entity key.
-  other-kind : (u : Unit) → unstored l s u ≡ true → asks l s u ≡ false
+  other_kind : (u : Unit) → unstored l s u ≡ true → asks l s u ≡ false
   unfolding has_temporary
-  other-kind u e =
+  other_kind u e =
       let t = eqb-true u.id template (both (eqb u.id template) _ e).0 in
       rw (ne_eqb u.id entity_key (λ z. omega (arith, t, z)))
 
   -- What the definition asks of a unit, by the template that it means.
   module _ (u : Unit) (m : Option ℕ) (e : meant_by l s u ≡ m) where
-    doubled-is : is_doubled l s u ≡ (unstored l s u && is_there m)
+    doubled_is : is_doubled l s u ≡ (unstored l s u && is_there m)
     unfolding is_doubled
-    doubled-is = rw e
+    doubled_is = rw e
 
-    lacking-is : is_lacking l s u ≡ (asks l s u && not (is_there m))
+    lacking_is : is_lacking l s u ≡ (asks l s u && not (is_there m))
     unfolding is_lacking
-    lacking-is = rw e
+    lacking_is = rw e
 
-  not-asked : (u : Unit) → asks l s u ≡ false → is_lacking l s u ≡ false
+  not_asked : (u : Unit) → asks l s u ≡ false → is_lacking l s u ≡ false
   unfolding is_lacking
-  not-asked u e = rw e
+  not_asked u e = rw e
 
-  not-unstored : (u : Unit) → unstored l s u ≡ false → is_doubled l s u ≡ false
+  not_unstored : (u : Unit) → unstored l s u ≡ false → is_doubled l s u ≡ false
   unfolding is_doubled
-  not-unstored u e = rw e
+  not_unstored u e = rw e
 
   -- What has been met after these units.
   pub record Met (p : Pass) (rs : List Ranked) (r : Pass) : Type 0 where
@@ -99,13 +99,13 @@ module _ (l : Layout) (s : List ℕ) where
   module _ (p : Pass) (r : Ranked) (rs : List Ranked) (seen : List Ranked) (held-is : p.seen ≡ seen)
       (meant : (unstored l s r.unit ≡ true) ⊎ (asks l s r.unit ≡ true) → meant_by l s r.unit ≡ held_for l s seen r.unit) where
     -- A template.
-    met-template : unstored l s r.unit ≡ true → (q : Pass) → Met (add_of l s p r) rs q → length p.seen < 256 → Met p (r ∷ rs) q
+    met_template : unstored l s r.unit ≡ true → (q : Pass) → Met (add_of l s p r) rs q → length p.seen < 256 → Met p (r ∷ rs) q
     unfolding first_that ranks_from
-    met-template e q w room =
+    met_template e q w room =
         let m = meant (inl e) in
-        let no = other-kind r.unit e in
-        let add = add-held l s p r room in
-        go (is_there (held_for l s seen r.unit)) refl no (doubled-is r.unit _ m) (ap (λ (x : Pass). x.worst) add) (ap (λ (x : Pass). x.ranks) add)
+        let no = other_kind r.unit e in
+        let add = add_held l s p r room in
+        go (is_there (held_for l s seen r.unit)) refl no (doubled_is r.unit _ m) (ap (λ (x : Pass). x.worst) add) (ap (λ (x : Pass). x.ranks) add)
       where
         go : (b : Bool) → is_there (held_for l s seen r.unit) ≡ b → asks l s r.unit ≡ false →
             is_doubled l s r.unit ≡ (unstored l s r.unit && is_there (held_for l s seen r.unit)) →
@@ -115,57 +115,57 @@ module _ (l : Layout) (s : List ℕ) where
             let two : is_doubled l s r.unit ≡ true = rw (d, e, x) in
             let is : (add_of l s p r).worst ≡ doubled_at p.worst r.unit.start = worst ∙ rw (held-is, x) in
             record {
-              worst = w.worst ∙ rw (is, two, not-asked r.unit other) (one_doubled p.worst r.unit _ _ _);
+              worst = w.worst ∙ rw (is, two, not_asked r.unit other) (one_doubled p.worst r.unit _ _ _);
               ranks = w.ranks ∙ rw (ranks, other);
             }
         go false x other d worst ranks =
             let one : is_doubled l s r.unit ≡ false = rw (d, e, x) in
             let is : (add_of l s p r).worst ≡ p.worst = worst ∙ rw (held-is, x) in
             record {
-              worst = w.worst ∙ rw (is, one, not-asked r.unit other);
+              worst = w.worst ∙ rw (is, one, not_asked r.unit other);
               ranks = w.ranks ∙ rw (ranks, other);
             }
 
     -- An entity key.
-    met-key : unstored l s r.unit ≡ false → asks l s r.unit ≡ true → (q : Pass) →
+    met_key : unstored l s r.unit ≡ false → asks l s r.unit ≡ true → (q : Pass) →
         Met (tell_of p r (held_for l s p.seen r.unit)) rs q → Met p (r ∷ rs) q
     unfolding first_that ranks_from tell_of is_there
-    met-key n e q w = go (held_for l s seen r.unit) refl (meant (inr e))
+    met_key n e q w = go (held_for l s seen r.unit) refl (meant (inr e))
       where
         go : (m : Option ℕ) → held_for l s seen r.unit ≡ m → meant_by l s r.unit ≡ held_for l s seen r.unit → Met p (r ∷ rs) q
         go none x y =
             let now : held_for l s p.seen r.unit ≡ none = rw held-is x in
             let v : Met (tell_of p r none) rs q = rw now at w in
-            let is : is_lacking l s r.unit ≡ true = rw (lacking-is r.unit none (y ∙ x), e) in
+            let is : is_lacking l s r.unit ≡ true = rw (lacking_is r.unit none (y ∙ x), e) in
             record {
-              worst = v.worst ∙ rw (not-unstored r.unit n, is) (one_lacking p.worst r.unit _ _);
+              worst = v.worst ∙ rw (not_unstored r.unit n, is) (one_lacking p.worst r.unit _ _);
               ranks = v.ranks ∙ rw (e, y, x);
             }
         go (some rank) x y =
             let now : held_for l s p.seen r.unit ≡ some rank = rw held-is x in
             let v : Met (tell_of p r (some rank)) rs q = rw now at w in
-            let is : is_lacking l s r.unit ≡ false = rw (lacking-is r.unit (some rank) (y ∙ x), e) in
+            let is : is_lacking l s r.unit ≡ false = rw (lacking_is r.unit (some rank) (y ∙ x), e) in
             record {
-              worst = v.worst ∙ rw (not-unstored r.unit n, is);
+              worst = v.worst ∙ rw (not_unstored r.unit n, is);
               ranks = v.ranks ∙ rw (e, y, x) (append_snoc p.ranks rank (ranks_from l s (units rs)));
             }
 
     -- Any other.
-    met-other : unstored l s r.unit ≡ false → asks l s r.unit ≡ false → (q : Pass) → Met p rs q → Met p (r ∷ rs) q
+    met_other : unstored l s r.unit ≡ false → asks l s r.unit ≡ false → (q : Pass) → Met p rs q → Met p (r ∷ rs) q
     unfolding first_that ranks_from
-    met-other n e q w = record {
-      worst = w.worst ∙ rw (not-unstored r.unit n, not-asked r.unit e);
+    met_other n e q w = record {
+      worst = w.worst ∙ rw (not_unstored r.unit n, not_asked r.unit e);
       ranks = w.ranks ∙ rw e;
     }
 
   -- One unit, if it is so of those behind it.
-  meets-turn : (done : List Ranked) (u : Ranked) (rs : List Ranked) (p : Pass) (b : ℕ) → ranked_units l s ≡ done ++ u ∷ rs →
+  meets_turn : (done : List Ranked) (u : Ranked) (rs : List Ranked) (p : Pass) (b : ℕ) → ranked_units l s ≡ done ++ u ∷ rs →
       Done l s all u.unit.start done → Rising u.unit.start b (units (u ∷ rs)) → Numbered l s all u.unit → p.seen ≡ held l s all done →
       length p.seen + count_that (unstored l s) (units (u ∷ rs)) ≤ 256 →
       ((q : Pass) → q.seen ≡ held l s all (done ++ (u ∷ [])) → length q.seen + count_that (unstored l s) (units rs) ≤ 256 →
       Met q rs (foldl (meet_of l s) q rs)) → Met p (u ∷ rs) (foldl (meet_of l s) p (u ∷ rs))
   unfolding count_that
-  meets-turn done u rs p b whole d r n seen few rest = go (unstored l s u.unit) refl (asks l s u.unit) refl few
+  meets_turn done u rs p b whole d r n seen few rest = go (unstored l s u.unit) refl (asks l s u.unit) refl few
     where
       meant : (unstored l s u.unit ≡ true) ⊎ (asks l s u.unit ≡ true) →
           meant_by l s u.unit ≡ held_for l s (held l s all done) u.unit
@@ -177,15 +177,15 @@ module _ (l : Layout) (s : List ℕ) where
           Met p (u ∷ rs) (foldl (meet_of l s) (cond x (add_of l s p u) (cond y (tell_of p u (held_for l s p.seen u.unit)) p)) rs)
       go true e y f h =
           let room : length p.seen < 256 = omega arith in
-          let more = ap (λ (q : Pass). q.seen) (add-held l s p u room) in
+          let more = ap (λ (q : Pass). q.seen) (add_held l s p u room) in
           let held-now : (add_of l s p u).seen ≡ held l s all (done ++ (u ∷ [])) = more ∙ rw (held_more l s all done u, e, seen) in
           let size : length (add_of l s p u).seen ≡ suc (length p.seen) = rw more (longer l s p.seen u) in
-          met-template p u rs _ seen meant e _ (rest (add_of l s p u) held-now (omega (arith, size, h))) room
+          met_template p u rs _ seen meant e _ (rest (add_of l s p u) held-now (omega (arith, size, h))) room
       go false e true f h =
-          let same = tell-seen l s p u (held_for l s p.seen u.unit) in
-          met-key p u rs _ seen meant e f _
+          let same = tell_seen l s p u (held_for l s p.seen u.unit) in
+          met_key p u rs _ seen meant e f _
           (rest (tell_of p u (held_for l s p.seen u.unit)) (same ∙ rw (held_more l s all done u, e, seen)) (rw same h))
-      go false e false f h = met-other p u rs _ seen meant e f _ (rest p (rw (held_more l s all done u, e, seen)) h)
+      go false e false f h = met_other p u rs _ seen meant e f _ (rest p (rw (held_more l s all done u, e, seen)) h)
 
   -- All that come, if there is room for the templates among them.
   meets : (done rs : List Ranked) (p : Pass) (a b : ℕ) → ranked_units l s ≡ done ++ rs → Done l s all a done → Rising a b (units rs) →
@@ -204,14 +204,14 @@ module _ (l : Layout) (s : List ℕ) where
       let next =
       done_more l s all (suc u.unit.start) done u
       (done_on l s all u.unit.start (suc u.unit.start) done (omega arith) here) (omega arith) n.0 in
-      meets-turn done u rs p b whole here (omega arith, r.1) n.0 seen few
+      meets_turn done u rs p b whole here (omega arith, r.1) n.0 seen few
       (λ q e f.
       meets (done ++ (u ∷ [])) rs q (suc u.unit.start) b (whole ∙ sym (append_snoc done u rs)) next r.1 n.1 e f)
 
   -- The pass over the whole of an accepted stream, whatever unit it begins with: what it leaves, and what is answered by that.
   module _ (o : Orderly l s) where
     numbers : AllNumbered l s all (units (ranked_units l s))
-    numbers = rw (units_are l s) (all-numbered l s all all o.pairs)
+    numbers = rw (units_are l s) (all_numbered l s all all o.pairs)
 
     abbrev pub met : Pass
     met = foldl (meet_of l s) nothing_met (ranked_units l s)
@@ -224,19 +224,19 @@ module _ (l : Layout) (s : List ℕ) where
     unfolding step_of
     no_key first r id = rw (ne_eqb r.unit.id temporary_key (λ z. omega (arith, id, z)))
 
-    pub pass-is : (first : Ranked) → is_group all ≡ true → (foldl (step_of l s) (walk_at first nothing_met) (ranked_units l s)).pass ≡ met
+    pub pass_is : (first : Ranked) → is_group all ≡ true → (foldl (step_of l s) (walk_at first nothing_met) (ranked_units l s)).pass ≡ met
     unfolding is_group
-    pass-is first group = go (ranked_units l s) (units_are l s)
+    pass_is first group = go (ranked_units l s) (units_are l s)
       where
         go : (rs : List Ranked) → units rs ≡ all → (foldl (step_of l s) (walk_at first nothing_met) rs).pass ≡ foldl (meet_of l s) nothing_met rs
         go [] e = refl
         go (r ∷ rs) e =
             let id = eqb-true r.unit.id er_group (ap is_group e ∙ group) in
             ap (λ (w : Walk). (foldl (step_of l s) w rs).pass) (no_key first r id)
-            ∙ step-fold l s r rs nothing_met (subst (Pairs l all) (sym e) o.pairs)
+            ∙ step_fold l s r rs nothing_met (subst (Pairs l all) (sym e) o.pairs)
 
-    told-many : 256 < count_that (unstored l s) all → met.worst ≡ Crowded
-    told-many h = many l s (ranked_units l s) nothing_met (omega arith) (omega (arith, counts, h))
+    told_many : 256 < count_that (unstored l s) all → met.worst ≡ Crowded
+    told_many h = many l s (ranked_units l s) nothing_met (omega arith) (omega (arith, counts, h))
 
     met_all : count_that (unstored l s) all ≤ 256 → Met nothing_met (ranked_units l s) met
     met_all h =
@@ -251,7 +251,7 @@ module _ (l : Layout) (s : List ℕ) where
             cond b (refusal 18 0)
             (refused_at 19 (first_that (is_doubled l s) all) (refused_at 20 (first_that (is_lacking l s) all) (counted (length (ranks_from l s all)) room)))
             ≡ told_by met.worst (length met.ranks) room
-        go true e = rw (told-many (ltb-true 256 _ e))
+        go true e = rw (told_many (ltb-true 256 _ e))
         go false e =
             let w = met_all (ltb-false 256 _ e) in
             rw (w.worst, w.ranks, units_are l s) (sym (told_first _ _ _ room))
@@ -262,5 +262,5 @@ module _ (l : Layout) (s : List ℕ) where
     ranks_are e = go (ltb 256 (count_that (unstored l s) all)) refl
       where
         go : (b : Bool) → ltb 256 (count_that (unstored l s) all) ≡ b → met.ranks ≡ ranks_from l s all
-        go true x = let crowded = told-many (ltb-true 256 _ x) in clash cc
+        go true x = let crowded = told_many (ltb-true 256 _ x) in clash cc
         go false x = let w = met_all (ltb-false 256 _ x) in w.ranks ∙ rw (units_are l s)

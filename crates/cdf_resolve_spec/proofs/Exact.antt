@@ -22,7 +22,7 @@ use Rattle.cdf_resolve_spec.specs.Claims.{Eligible}
 use Rattle.cdf_resolve_spec.specs.declared.Resolved.{Resolved}
 use Rattle.cdf_resolve_spec.proofs.Pairing.{Orderly, orderly}
 use Rattle.cdf_resolve_spec.proofs.Saying.{none_passes, first_in, has_one}
-use Rattle.cdf_resolve_spec.proofs.Claiming.{none_in, told, first-doubled, no-doubled, first-lacking, neither}
+use Rattle.cdf_resolve_spec.proofs.Claiming.{none_in, told, first_doubled, no_doubled, first_lacking, neither}
 
 -- Of units whose starts rise no two start at the same place.
 starts_above : (a b : ℕ) (us : List Unit) (u : Unit) → Rising a b us → In u us → a ≤ u.start
@@ -74,23 +74,23 @@ module _ (e : Edition) (s : List ℕ) (room : ℕ) (bytes : Bytes s) (eligible :
   abbrev Fine : Resolved → Type 0
   Fine r = (r.number ≡ 0) ⊎ (r.number ≡ 12)
 
-  pub exactly-is : Fine (resolved_of l s room) ↔ Whole l s
-  exactly-is = told l s room (λ r. Fine r ↔ Whole l s) eligible (record {
+  pub exactly_is : Fine (resolved_of l s room) ↔ Whole l s
+  exactly_is = told l s room (λ r. Fine r ↔ Whole l s) eligible (record {
     doubled = λ t d.
-        let f = first_in (first-doubled l s room t d) in (
+        let f = first_in (first_doubled l s room t d) in (
           (λ z. absurd (neither l s room (refusal 19 t.start) 19 (omega arith) z refl)),
           λ w. absurd (none_in (Doubled l s) (listing l s).units t w.0 f.0 f.1),
         );
     lacking = λ d u k.
-        let f = first_in (first-lacking l s room u k) in (
+        let f = first_in (first_lacking l s room u k) in (
           (λ z. absurd (neither l s room (refusal 20 u.start) 20 (omega arith) z refl)),
           λ w. let m = w.1 u f.1.0 f.0 f.1.1 in absurd (f.1.2 m.0 m.1 m.2),
         );
     clean = λ c r is. (
       (λ z. (
-        no-doubled l s room c.0,
+        no_doubled l s room c.0,
         λ u key i h.
-            one l s ordered u key (no-doubled l s room c.0)
+            one l s ordered u key (no_doubled l s room c.0)
             (has_one l s u key h (none_passes (is_lacking l s) (listing l s).units u c.1 i)),
       )),
       λ w. is,

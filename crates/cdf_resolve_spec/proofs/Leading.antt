@@ -87,11 +87,11 @@ four_long l id text inner e n p =
     rw (none_inside inner empty, four)
 
 module _ (l : Layout) where
-  lead-next : (t : Unit) (x : ℕ) (inner : Forest) → KeyFirst (ids inner) → Conforms inner → t.start + prefix_of l ≤ t.own → x ≡ t.own →
+  lead_next : (t : Unit) (x : ℕ) (inner : Forest) → KeyFirst (ids inner) → Conforms inner → t.start + prefix_of l ≤ t.own → x ≡ t.own →
       x + length (encode l inner) ≤ t.end → LeadNext l t (list l x inner)
   unfolding list ids
-  lead-next t x none (k, more, e, kind) c name own h = clash cc
-  lead-next t x (tree id action text inner rest) (k, more, e, kind) c name own h =
+  lead_next t x none (k, more, e, kind) c name own h = clash cc
+  lead_next t x (tree id action text inner rest) (k, more, e, kind) c name own h =
       let same : id ≡ k = cc in
       record {
         key = key_is _ (rw same kind);
@@ -109,6 +109,6 @@ module _ (l : Layout) where
       let end = at + prefix_of l + (length text + length (encode l inner)) in (
         (λ o.
             next_on l _ (list l x inner) (list l end rest)
-            (lead-next _ x inner (first_key id (ids inner) o c.0.holds) c.1 (omega arith) (rw (named id text o c.0.says)) (omega arith))),
+            (lead_next _ x inner (first_key id (ids inner) o c.0.holds) c.1 (omega arith) (rw (named id text o c.0.says)) (omega arith))),
         led_both l (list l x inner) (list l end rest) (led x inner c.1) (led end rest c.2),
       )

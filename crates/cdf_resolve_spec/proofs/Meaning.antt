@@ -55,10 +55,10 @@ where_passed true m n e = e refl
 where_passed false m n e = refl
 
 module _ (l : Layout) (s : List ℕ) (all : List Unit) where
-  that-is : (q : Query) (t : Unit) →
+  that_is : (q : Query) (t : Unit) →
       is_that_template l s q all t ≡ (named l s template q.template t && passes (is_that_key l s q.key_id q.key) (key_in all t))
   unfolding is_that_template key_in
-  that-is q t = refl
+  that_is q t = refl
 
   temporary : (id : ℕ) (t : Unit) → has_temporary all id t ≡ (eqb t.id id && passes is_temporary (key_in all t))
   unfolding has_temporary
@@ -68,7 +68,7 @@ module _ (l : Layout) (s : List ℕ) (all : List Unit) where
   asked_is : (u t : Unit) → Numbered l s all t →
       is_that_template l s (meaning l s (number_of l s u) u) all t ≡ (has_temporary all template t && alike l s u t)
   unfolding reads passes alike_at
-  asked_is u t w = rw (that-is (meaning l s (number_of l s u) u) t, temporary template t) (go (key_in all t) refl)
+  asked_is u t w = rw (that_is (meaning l s (number_of l s u) u) t, temporary template t) (go (key_in all t) refl)
     where
       go : (o : Option Unit) → key_in all t ≡ o →
           (named l s template (name_of l s u) t && passes (is_that_key l s temporary_key (number_of l s u)) o)
@@ -85,20 +85,20 @@ module _ (l : Layout) (s : List ℕ) (all : List Unit) where
 
   module _ (u : Unit) (number : key_bytes l s (key_in all u) ≡ number_of l s u) where
     -- An earlier template, and one that is not.
-    earlier-is : (t : Unit) → Numbered l s all t → t.start < u.start →
+    earlier_is : (t : Unit) → Numbered l s all t → t.start < u.start →
         is_earlier l s all u t ≡ (has_temporary all template t && alike l s u t)
     unfolding is_earlier
-    earlier-is t w h = rw (number, lt-ltb t.start u.start h, asked_is u t w)
+    earlier_is t w h = rw (number, lt-ltb t.start u.start h, asked_is u t w)
 
-    later-is : (t : Unit) → u.start ≤ t.start → is_earlier l s all u t ≡ false
+    later_is : (t : Unit) → u.start ≤ t.start → is_earlier l s all u t ≡ false
     unfolding is_earlier
-    later-is t h = rw (le-ltb t.start u.start h)
+    later_is t h = rw (le-ltb t.start u.start h)
 
-    none-later : (a b : ℕ) (rs : List Ranked) → u.start ≤ a → Rising a b (units rs) → rank_that (is_earlier l s all u) rs ≡ none
+    none_later : (a b : ℕ) (rs : List Ranked) → u.start ≤ a → Rising a b (units rs) → rank_that (is_earlier l s all u) rs ≡ none
     unfolding rank_that
-    none-later a b [] h r = refl
-    none-later a b (t ∷ rs) h r =
-        rw (later-is t.unit (omega (arith, r.0))) (none-later (suc t.unit.start) b rs (omega (arith, r.0)) r.1)
+    none_later a b [] h r = refl
+    none_later a b (t ∷ rs) h r =
+        rw (later_is t.unit (omega (arith, r.0))) (none_later (suc t.unit.start) b rs (omega (arith, r.0)) r.1)
 
   -- Those before a position, each with its number.
   abbrev pub Done : ℕ → List Ranked → Type 0
@@ -131,12 +131,12 @@ module _ (l : Layout) (s : List ℕ) (all : List Unit) where
       go false true = refl
       go false false = refl
 
-  rank-held : (u : Unit) → key_bytes l s (key_in all u) ≡ number_of l s u → (rs : List Ranked) → Done u.start rs →
+  rank_held : (u : Unit) → key_bytes l s (key_in all u) ≡ number_of l s u → (rs : List Ranked) → Done u.start rs →
       rank_that (is_earlier l s all u) rs ≡ rank_that (alike l s u) (held rs)
   unfolding rank_that
-  rank-held u number [] d = refl
-  rank-held u number (t ∷ rs) d =
-      rw (earlier-is u number t.unit d.1 d.0, rank-held u number rs d.2) (go (has_temporary all template t.unit))
+  rank_held u number [] d = refl
+  rank_held u number (t ∷ rs) d =
+      rw (earlier_is u number t.unit d.1 d.0, rank_held u number rs d.2) (go (has_temporary all template t.unit))
     where
       go : (x : Bool) → cond (x && alike l s u t.unit) (some t.rank) (rank_that (alike l s u) (held rs))
           ≡ rank_that (alike l s u) (cond x (t ∷ held rs) (held rs))
@@ -155,4 +155,4 @@ pub meant_held : (l : Layout) (s : List ℕ) (done rs : List Ranked) (u : Unit) 
 unfolding meant_by held_for
 meant_held l s done rs u b whole number d r =
     let all = (listing l s).units in
-    rw (whole, rank_front (is_earlier l s all u) done rs (none-later l s all u number u.start b rs (omega arith) r)) (rank-held l s all u number done d)
+    rw (whole, rank_front (is_earlier l s all u) done rs (none_later l s all u number u.start b rs (omega arith) r)) (rank_held l s all u number done d)

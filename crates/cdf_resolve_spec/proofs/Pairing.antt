@@ -20,7 +20,7 @@ use Rattle.cdf_grammar.specs.Encoding.{Stream, encode, own_length, list}
 use Rattle.cdf_grammar.proofs.Proved.{stream_listing}
 use Rattle.cdf_lookup_spec.specs.Find.{is_key, first_that, passes}
 use Rattle.cdf_lookup_spec.proofs.Ordered.{Rising, rising}
-use Rattle.cdf_lookup_spec.proofs.Searching.{Before, before_on, early, skip-before, judged}
+use Rattle.cdf_lookup_spec.proofs.Searching.{Before, before_on, early, skip_before, judged}
 use Rattle.cdf_resolve_spec.specs.Resolve.{key_in, is_temporary, has_temporary, key_bytes}
 use Rattle.cdf_resolve_spec.specs.Pass.{number_of}
 use Rattle.cdf_resolve_spec.proofs.Leading.{Owner, Leads, Led, led}
@@ -38,26 +38,26 @@ module _ (l : Layout) (all : List Unit) where
   Pairs (t ∷ k ∷ us) = (Owner t.id → Pair t k) × Pairs (k ∷ us)
 
   -- Of all units, the first key in t is the one behind it.
-  key-behind : (before : List Unit) (t k : Unit) (us : List Unit) (b : ℕ) → all ≡ reverse_aux before (t ∷ k ∷ us) →
+  key_behind : (before : List Unit) (t k : Unit) (us : List Unit) (b : ℕ) → all ≡ reverse_aux before (t ∷ k ∷ us) →
       Before t.start before → Rising t.start b (t ∷ k ∷ us) → Leads l t k → key_in all t ≡ some k
   unfolding key_in first_that
-  key-behind before t k us b whole earlier r w =
+  key_behind before t k us b whole earlier r w =
       rw (
         whole,
-        skip-before t is_key before (t ∷ k ∷ us) (before_on t.start (suc t.start) before (omega arith) earlier),
+        skip_before t is_key before (t ∷ k ∷ us) (before_on t.start (suc t.start) before (omega arith) earlier),
         early t is_key t (omega arith),
         judged t is_key k (omega (arith, r.1.0)) w.lies,
         w.key,
       )
 
-  pairs-from : (before us : List Unit) (a b : ℕ) → all ≡ reverse_aux before us → Before a before → Rising a b us → Led l us → Pairs us
-  pairs-from before [] a b whole earlier r w = record {}
-  pairs-from before (t ∷ []) a b whole earlier r w = w.0
-  pairs-from before (t ∷ k ∷ us) a b whole earlier r w =
+  pairs_from : (before us : List Unit) (a b : ℕ) → all ≡ reverse_aux before us → Before a before → Rising a b us → Led l us → Pairs us
+  pairs_from before [] a b whole earlier r w = record {}
+  pairs_from before (t ∷ []) a b whole earlier r w = w.0
+  pairs_from before (t ∷ k ∷ us) a b whole earlier r w =
       let early = before_on a t.start before r.0 earlier in
       let past : Before (suc t.start) (t ∷ before) = (omega arith, before_on t.start (suc t.start) before (omega arith) early) in (
-        (λ o. record { key = key-behind before t k us b whole early (omega arith, r.1) (w.0 o); leads = w.0 o }),
-        pairs-from (t ∷ before) (k ∷ us) (suc t.start) b whole past r.1 w.1,
+        (λ o. record { key = key_behind before t k us b whole early (omega arith, r.1) (w.0 o); leads = w.0 o }),
+        pairs_from (t ∷ before) (k ∷ us) (suc t.start) b whole past r.1 w.1,
       )
 
 -- The own data of an E/R group end with its prefix.
@@ -65,12 +65,12 @@ root_width : (l : Layout) (t : Forest) (u : Unit) (us : List Unit) → list l 0 
 unfolding list own_length production_of
 root_width l none u us e id = clash cc
 root_width l (tree kind action text inner rest) u us e id =
-    let same = head-same e in
+    let same = head_same e in
     let group : kind ≡ er_group = ap (λ (x : Unit). x.id) same ∙ id in
     sym (ap (λ (x : Unit). x.own) same) ∙ rw group (omega arith)
   where
-    head-same : {v w : Unit} {vs ws : List Unit} → v ∷ vs ≡ w ∷ ws → v ≡ w
-    head-same x = cc
+    head_same : {v w : Unit} {vs ws : List Unit} → v ∷ vs ≡ w ∷ ws → v ≡ w
+    head_same x = cc
 
 -- The units of an accepted stream rise and are paired, and of an E/R group's the first ends where its prefix does.
 pub record Orderly (l : Layout) (s : List ℕ) : Type 0 where
@@ -88,7 +88,7 @@ orderly e s t p =
     record {
       bound = 0 + length (encode l t);
       rising = up;
-      pairs = pairs-from l (listing l s).units [] (listing l s).units 0 _ refl (record {}) up leads;
+      pairs = pairs_from l (listing l s).units [] (listing l s).units 0 _ refl (record {}) up leads;
       root = λ u vs e id. root_width l t u vs (sym us ∙ e) id;
     }
 
@@ -99,29 +99,29 @@ module _ (l : Layout) (s : List ℕ) (all : List Unit) where
 
   -- By the key that is paired: what the definition asks, and the number.
   module _ (t k : Unit) (w : Pair l all t k) where
-    pub temporary-is : (id : ℕ) → has_temporary all id t ≡ (eqb t.id id && is_temporary k)
+    pub temporary_is : (id : ℕ) → has_temporary all id t ≡ (eqb t.id id && is_temporary k)
     unfolding has_temporary passes
-    temporary-is id = rw w.key
+    temporary_is id = rw w.key
 
     number_is : is_temporary k ≡ true → key_bytes l s (key_in all t) ≡ number_of l s t
     number_is e = rw (w.key, w.leads.four (eqb-true k.id temporary_key e), w.leads.start)
 
   -- A unit of this id is one that has keys.
-  owner-is : (u : Unit) (id : ℕ) → Owner id → has_temporary all id u ≡ true → Owner u.id
+  owner_is : (u : Unit) (id : ℕ) → Owner id → has_temporary all id u ≡ true → Owner u.id
   unfolding has_temporary
-  owner-is u id o e = let same = eqb-true u.id id (both (eqb u.id id) _ e).0 in rw same o
+  owner_is u id o e = let same = eqb-true u.id id (both (eqb u.id id) _ e).0 in rw same o
 
   pub numbered : (t k : Unit) → (Owner t.id → Pair l all t k) → Numbered t
   numbered t k w id o e =
-      let p = w (owner-is t id o e) in
-      number_is t k p (both (eqb t.id id) (is_temporary k) (sym (temporary-is t k p id) ∙ e)).1
+      let p = w (owner_is t id o e) in
+      number_is t k p (both (eqb t.id id) (is_temporary k) (sym (temporary_is t k p id) ∙ e)).1
 
   -- One that has no keys has no temporary one.
   pub without : (t : Unit) (id : ℕ) → (Owner t.id → ⊥) → Owner id → has_temporary all id t ≡ false
   without t id other o = go (has_temporary all id t) refl
     where
       go : (b : Bool) → has_temporary all id t ≡ b → has_temporary all id t ≡ false
-      go true e = absurd (other (owner-is t id o e))
+      go true e = absurd (other (owner_is t id o e))
       go false e = e
 
   -- All of them.
@@ -129,7 +129,7 @@ module _ (l : Layout) (s : List ℕ) (all : List Unit) where
   AllNumbered [] = record {}
   AllNumbered (u ∷ us) = Numbered u × AllNumbered us
 
-  pub all-numbered : (us : List Unit) → Pairs l all us → AllNumbered us
-  all-numbered [] p = record {}
-  all-numbered (t ∷ []) p = ((λ id o e. absurd (p (owner-is t id o e))), record {})
-  all-numbered (t ∷ k ∷ us) p = (numbered t k p.0, all-numbered (k ∷ us) p.1)
+  pub all_numbered : (us : List Unit) → Pairs l all us → AllNumbered us
+  all_numbered [] p = record {}
+  all_numbered (t ∷ []) p = ((λ id o e. absurd (p (owner_is t id o e))), record {})
+  all_numbered (t ∷ k ∷ us) p = (numbered t k p.0, all_numbered (k ∷ us) p.1)

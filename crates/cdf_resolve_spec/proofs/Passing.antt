@@ -20,7 +20,7 @@ use Rattle.cdf_resolve_spec.specs.Pass.{Pass, doubled_at, lacking_at, held_for, 
 use Rattle.cdf_resolve_spec.specs.declared.Worst.{Worst}
 use Rattle.cdf_resolve_spec.specs.declared.Worst.TheVariants.{Crowded}
 use Rattle.cdf_resolve_spec.proofs.Leading.{Owner}
-use Rattle.cdf_resolve_spec.proofs.Pairing.{Pair, Pairs, temporary-is, without}
+use Rattle.cdf_resolve_spec.proofs.Pairing.{Pair, Pairs, temporary_is, without}
 use Rattle.cdf_resolve_spec.proofs.Meaning.{units}
 
 -- A test first or last.
@@ -54,7 +54,7 @@ module _ (l : Layout) (s : List ℕ) where
     where
       paired : Owner o.unit.id → cond (is_temporary k) (met_of l s p o) p ≡ meet_of p o
       paired x =
-          rw (temporary-is l s all o.unit k (w x) template, temporary-is l s all o.unit k (w x) entity_key)
+          rw (temporary_is l s all o.unit k (w x) template, temporary_is l s all o.unit k (w x) entity_key)
           (either_way (eqb o.unit.id template) (eqb o.unit.id entity_key) (is_temporary k) _ _ p)
 
       go : (x y : Bool) → eqb o.unit.id template ≡ x → eqb o.unit.id entity_key ≡ y →
@@ -70,42 +70,42 @@ module _ (l : Layout) (s : List ℕ) where
           neither (inr x) = eqb-false o.unit.id entity_key f x
 
   -- The pass is one unit behind.
-  pub step-fold : (o : Ranked) (rs : List Ranked) (p : Pass) → Pairs l all (units (o ∷ rs)) →
+  pub step_fold : (o : Ranked) (rs : List Ranked) (p : Pass) → Pairs l all (units (o ∷ rs)) →
       (foldl (step_of l s) (walk_at o p) rs).pass ≡ foldl meet_of p (o ∷ rs)
   unfolding step_of
-  step-fold o [] p w = rw (without l s all o.unit template w (inl refl), without l s all o.unit entity_key w (inr refl))
-  step-fold o (k ∷ rs) p w =
-      step-fold k rs (cond (is_temporary k.unit) (met_of l s p o) p) w.1
+  step_fold o [] p w = rw (without l s all o.unit template w (inl refl), without l s all o.unit entity_key w (inr refl))
+  step_fold o (k ∷ rs) p w =
+      step_fold k rs (cond (is_temporary k.unit) (met_of l s p o) p) w.1
       ∙ ap (λ (q : Pass). foldl meet_of (meet_of q k) rs) (pair_turn p o k.unit w.0)
 
   -- What is met once there is no room is told, whatever comes.
-  add-crowded : (p : Pass) (o : Ranked) → p.worst ≡ Crowded → (add_of l s p o).worst ≡ Crowded
+  add_crowded : (p : Pass) (o : Ranked) → p.worst ≡ Crowded → (add_of l s p o).worst ≡ Crowded
   unfolding add_of doubled_at
-  add-crowded p o e =
+  add_crowded p o e =
       of_cond (λ (q : Pass). q.worst ≡ Crowded) (ltb (length p.seen) most_templates) _ _
       (λ x. rw e (of_cond (λ (v : Worst). v ≡ Crowded) (is_there (held_for l s p.seen o.unit)) _ _ (λ y. refl) (λ y. refl)))
       (λ x. refl)
 
-  tell-crowded : (p : Pass) (o : Ranked) (m : Option ℕ) → p.worst ≡ Crowded → (tell_of p o m).worst ≡ Crowded
+  tell_crowded : (p : Pass) (o : Ranked) (m : Option ℕ) → p.worst ≡ Crowded → (tell_of p o m).worst ≡ Crowded
   unfolding tell_of lacking_at
-  tell-crowded p o none e = rw e
-  tell-crowded p o (some rank) e = e
+  tell_crowded p o none e = rw e
+  tell_crowded p o (some rank) e = e
 
-  stays-crowded : (rs : List Ranked) (p : Pass) → p.worst ≡ Crowded → (foldl meet_of p rs).worst ≡ Crowded
-  stays-crowded [] p e = e
-  stays-crowded (r ∷ rs) p e =
-      stays-crowded rs (meet_of p r)
-      (of_cond (λ (q : Pass). q.worst ≡ Crowded) (unstored l s r.unit) _ _ (λ x. add-crowded p r e)
-      (λ x. of_cond (λ (q : Pass). q.worst ≡ Crowded) (asks l s r.unit) _ _ (λ y. tell-crowded p r _ e) (λ y. e)))
+  stays_crowded : (rs : List Ranked) (p : Pass) → p.worst ≡ Crowded → (foldl meet_of p rs).worst ≡ Crowded
+  stays_crowded [] p e = e
+  stays_crowded (r ∷ rs) p e =
+      stays_crowded rs (meet_of p r)
+      (of_cond (λ (q : Pass). q.worst ≡ Crowded) (unstored l s r.unit) _ _ (λ x. add_crowded p r e)
+      (λ x. of_cond (λ (q : Pass). q.worst ≡ Crowded) (asks l s r.unit) _ _ (λ y. tell_crowded p r _ e) (λ y. e)))
 
   -- Telling holds no template.
-  pub tell-seen : (p : Pass) (o : Ranked) (m : Option ℕ) → (tell_of p o m).seen ≡ p.seen
+  pub tell_seen : (p : Pass) (o : Ranked) (m : Option ℕ) → (tell_of p o m).seen ≡ p.seen
   unfolding tell_of
-  tell-seen p o none = refl
-  tell-seen p o (some rank) = refl
+  tell_seen p o none = refl
+  tell_seen p o (some rank) = refl
 
   -- With room a template is held.
-  pub add-held : (p : Pass) (o : Ranked) → length p.seen < 256 →
+  pub add_held : (p : Pass) (o : Ranked) → length p.seen < 256 →
       add_of l s p o
       ≡ record {
         seen = p.seen ++ (o ∷ []);
@@ -113,7 +113,7 @@ module _ (l : Layout) (s : List ℕ) where
         worst = cond (is_there (held_for l s p.seen o.unit)) (doubled_at p.worst o.unit.start) p.worst;
       }
   unfolding add_of
-  add-held p o h = rw (lt-ltb (length p.seen) 256 h)
+  add_held p o h = rw (lt-ltb (length p.seen) 256 h)
 
   pub longer : (seen : List Ranked) (o : Ranked) → length (seen ++ (o ∷ [])) ≡ suc (length seen)
   longer seen o = let e = length-append seen (o ∷ []) in omega (arith, e)
@@ -123,9 +123,9 @@ module _ (l : Layout) (s : List ℕ) where
   Many rs =
       (p : Pass) → length p.seen ≤ 256 → 256 < length p.seen + count_that (unstored l s) (units rs) → (foldl meet_of p rs).worst ≡ Crowded
 
-  many-turn : (r : Ranked) (rs : List Ranked) → Many rs → Many (r ∷ rs)
+  many_turn : (r : Ranked) (rs : List Ranked) → Many rs → Many (r ∷ rs)
   unfolding count_that add_of
-  many-turn r rs behind p few more = go (unstored l s r.unit) refl more
+  many_turn r rs behind p few more = go (unstored l s r.unit) refl more
     where
       rest : (q : Pass) → q.seen ≡ p.seen → 256 < length p.seen + count_that (unstored l s) (units rs) → (foldl meet_of q rs).worst ≡ Crowded
       rest q e h = behind q (rw e few) (rw e h)
@@ -134,10 +134,10 @@ module _ (l : Layout) (s : List ℕ) where
           256 < length p.seen + suc (count_that (unstored l s) (units rs)) → (foldl meet_of (add_of l s p r) rs).worst ≡ Crowded
       room true x h =
           let less = ltb-true (length p.seen) 256 x in
-          let more = ap (λ (q : Pass). q.seen) (add-held p r less) in
+          let more = ap (λ (q : Pass). q.seen) (add_held p r less) in
           let size : length (add_of l s p r).seen ≡ suc (length p.seen) = rw more (longer p.seen r) in
           behind (add_of l s p r) (omega (arith, size, less)) (omega (arith, size, h))
-      room false x h = stays-crowded rs (add_of l s p r) (rw x)
+      room false x h = stays_crowded rs (add_of l s p r) (rw x)
 
       go : (x : Bool) → unstored l s r.unit ≡ x →
           256 < length p.seen + cond x (suc (count_that (unstored l s) (units rs))) (count_that (unstored l s) (units rs)) →
@@ -145,9 +145,9 @@ module _ (l : Layout) (s : List ℕ) where
       go true e h = room (ltb (length p.seen) 256) refl h
       go false e h =
           of_cond (λ (q : Pass). (foldl meet_of q rs).worst ≡ Crowded) (asks l s r.unit) _ _
-          (λ y. rest _ (tell-seen p r (held_for l s p.seen r.unit)) h) (λ y. rest p refl h)
+          (λ y. rest _ (tell_seen p r (held_for l s p.seen r.unit)) h) (λ y. rest p refl h)
 
   pub many : (rs : List Ranked) → Many rs
   unfolding count_that
   many [] p few more = absurd (omega arith)
-  many (r ∷ rs) p few more = many-turn r rs (many rs) p few more
+  many (r ∷ rs) p few more = many_turn r rs (many rs) p few more

@@ -12,7 +12,7 @@ use Rattle.cdf_unit_table.proofs.Bools.{both}
 use Rattle.cdf_unit_prefix.specs.Layout.{Layout, layout_for}
 use Rattle.cdf_reader_spec.specs.Calls.{Part, no_part, call_of}
 use Rattle.cdf_reader_spec.specs.declared.Call.TheVariants.{Start, Next, Skip, Previous}
-use Rattle.cdf_reader_spec.proofs.Replying.{start-named, next-named, skip-named}
+use Rattle.cdf_reader_spec.proofs.Replying.{start_named, next_named, skip_named}
 use Rattle.cdf_reader_cursor.specs.Outcomes.{cursor_place, outcome_reply, no_cursor}
 use Rattle.cdf_reader_cursor.specs.declared.Cursor.{Cursor}
 use Rattle.cdf_reader_cursor.specs.declared.Outcome.{Outcome}
@@ -25,7 +25,7 @@ use Rattle.cdf_reader_replay_spec.proofs.Replaying.{Running, on}
 use Rattle.cdf_table_reader_spec.specs.Table.{entries}
 use Rattle.cdf_table_reader_spec.specs.Calls.{table_first, table_next}
 use Rattle.cdf_table_reader_spec.specs.Runs.{table_call}
-use Rattle.cdf_table_reader_spec.proofs.Alike.{first_alike, next-alike, skip-alike}
+use Rattle.cdf_table_reader_spec.proofs.Alike.{first_alike, next_alike, skip_alike}
 use Rattle.cdf_table_reader_spec.proofs.Other.{start_other, next_other, skip_other}
 use Rattle.cdf_table_reader_replay_spec.specs.Replay.{shared_code, shared_by, heard, TableReplayed}
 
@@ -52,7 +52,7 @@ module _ (table : List ℕ) (l : Layout) (s : List ℕ) (p : Cursor) where
       unfolding table_call
       skips b r w =
           rw (ne_eqb code 1 a, ne_eqb code 2 b)
-          (w.0 ∙ skip-named l s (cursor_place p) ∙ sym (skip-alike l s (cursor_place p)), w.1.0)
+          (w.0 ∙ skip_named l s (cursor_place p) ∙ sym (skip_alike l s (cursor_place p)), w.1.0)
 
 -- What holds of each of the three codes.
 each : (P : ℕ → Type 0) → P 1 → P 2 → P 3 → (code : ℕ) → shared_code code ≡ true → P code
@@ -77,11 +77,11 @@ module _ (table s : List ℕ) (is : table ≡ entries) (p : Cursor) (held : Held
   goes =
       each Goes
       (λ r w. goes_on s p held Start r
-      (w.0 ∙ rw is (first_alike l s) ∙ sym (start-named l s (cursor_place p)), (w.1, λ z. start_other z)))
+      (w.0 ∙ rw is (first_alike l s) ∙ sym (start_named l s (cursor_place p)), (w.1, λ z. start_other z)))
       (λ r w. goes_on s p held Next r
-      (w.0 ∙ rw is (next-alike l s (cursor_place p)) ∙ sym (next-named l s (cursor_place p)), (w.1, λ z. next_other z)))
+      (w.0 ∙ rw is (next_alike l s (cursor_place p)) ∙ sym (next_named l s (cursor_place p)), (w.1, λ z. next_other z)))
       (λ r w. goes_on s p held Skip r
-      (w.0 ∙ skip-alike l s (cursor_place p) ∙ sym (skip-named l s (cursor_place p)), (w.1, λ z. skip_other z)))
+      (w.0 ∙ skip_alike l s (cursor_place p) ∙ sym (skip_named l s (cursor_place p)), (w.1, λ z. skip_other z)))
 
 -- A code as it is heard, where it stands.
 heard_at : (codes : List ℕ) (k : ℕ) → get_or (map heard codes) k 0 ≡ heard (get_or codes k 0)

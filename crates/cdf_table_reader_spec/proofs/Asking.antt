@@ -25,9 +25,9 @@ table_tests table l s p = refl
 
 module _ (table : List ℕ) (l : Layout) (s : List ℕ) (p : Cursor) where
   -- A place is empty exactly if its count is 0.
-  empty-is : is_empty (cursor_place p) ≡ eqb p.count 0
+  empty_is : is_empty (cursor_place p) ≡ eqb p.count 0
   unfolding is_empty
-  empty-is = rw (length_open p.count p.top p.o1 p.o2 p.o3)
+  empty_is = rw (length_open p.count p.top p.o1 p.o2 p.o3)
 
   -- What is promised of the answer.
   abbrev Answers : Outcome → Type 0
@@ -37,12 +37,12 @@ module _ (table : List ℕ) (l : Layout) (s : List ℕ) (p : Cursor) where
   refuses n at r is due = (ap outcome_reply is ∙ sym due, λ some. ap (λ (a : Outcome). a.cursor) is)
 
   pub useless : p.count ≡ 0 → (r : Outcome) → r ≡ refusal 11 0 p → Answers r
-  useless none r is = refuses 11 0 r is (table_tests table l s (cursor_place p) ∙ rw (empty-is, eq-eqb p.count 0 none))
+  useless none r is = refuses 11 0 r is (table_tests table l s (cursor_place p) ∙ rw (empty_is, eq-eqb p.count 0 none))
 
   module _ (some : p.count ≡ 0 → ⊥) where
     pub unfit : fits l (length s) (cursor_place p) ≡ false → (r : Outcome) → r ≡ refusal 2 0 p → Answers r
-    unfit f r is = refuses 2 0 r is (table_tests table l s (cursor_place p) ∙ rw (empty-is, ne_eqb p.count 0 some, f))
+    unfit f r is = refuses 2 0 r is (table_tests table l s (cursor_place p) ∙ rw (empty_is, ne_eqb p.count 0 some, f))
 
     pub goes_on : fits l (length s) (cursor_place p) ≡ true → (r : Outcome) →
         (outcome_reply r ≡ advanced_with (table_judge table l false) s (cursor_place p)) × ((r.number ≡ 0 → ⊥) → r.cursor ≡ p) → Answers r
-    goes_on f r w = (w.0 ∙ sym (table_tests table l s (cursor_place p) ∙ rw (empty-is, ne_eqb p.count 0 some, f)), w.1)
+    goes_on f r w = (w.0 ∙ sym (table_tests table l s (cursor_place p) ∙ rw (empty_is, ne_eqb p.count 0 some, f)), w.1)

@@ -19,14 +19,14 @@ use Rattle.cdf_unit_judge.specs.declared.Body.{Body}
 use Rattle.cdf_unit_judge.specs.declared.Body.TheVariants.{Action, Data, Whole}
 use Rattle.cdf_unit_judge.specs.declared.Judged.{Judged}
 use Rattle.cdf_unit_judge.specs.declared.Judged.TheVariants.{Fault, Found}
-use Rattle.cdf_unit_judge.proofs.Faults.{OfHeader, of-head}
+use Rattle.cdf_unit_judge.proofs.Faults.{OfHeader, of_head}
 use Rattle.cdf_unit_list.specs.Stack.{incomplete, left, close, opened, entered, with_state, step_in_with, step_with}
 use Rattle.cdf_unit_list.specs.declared.Open.{Open}
 use Rattle.cdf_unit_list.proofs.Entering.{unit_from}
 use Rattle.cdf_reader_spec.specs.Place.{ReaderPlace, is_empty, fits}
 use Rattle.cdf_reader_spec.specs.Closing.{unclosed}
 use Rattle.cdf_reader_spec.specs.Calls.{Reply, refuse, stepped, empty_place}
-use Rattle.cdf_reader_close.proofs.Unclosed.{close-unclosed, stops}
+use Rattle.cdf_reader_close.proofs.Unclosed.{close_unclosed, stops}
 use Rattle.cdf_reader_advance.specs.Advancing.{no_step, has_bytes, has_room, advanced_with}
 use Rattle.cdf_reader_advance.proofs.Stepped.{advanced_with_is}
 use Rattle.cdf_table_reader_spec.specs.Table.{looked}
@@ -46,17 +46,17 @@ module _ (table : List ℕ) (l : Layout) (root : Bool) (state : ℕ) (s : List �
   by_body id action len some (Data k) = (λ z. omega arith, λ z. absurd (omega arith))
   by_body id action len some (Whole k) = (refl, some)
 
-  by-head : (h : Header) → head_of l root s ≡ h → OfHeader h → ByEntry (judge_head name_bytes l (looked table state) s h)
+  by_head : (h : Header) → head_of l root s ≡ h → OfHeader h → ByEntry (judge_head name_bytes l (looked table state) s h)
   unfolding judge_head
-  by-head (Stop n) q w = (λ z. omega (arith, w), λ z. absurd (omega (arith, w)))
-  by-head (Prefix id action len) q w =
+  by_head (Stop n) q w = (λ z. omega (arith, w), λ z. absurd (omega (arith, w)))
+  by_head (Prefix id action len) q w =
       of_cond ByEntry (eqb (looked table state id) 0) (Fault 7 0) _
       (λ e. (λ z. omega arith, λ z. (id, action, len, q, eqb-true (looked table state id) 0 e)))
       (λ e. by_body id action len (eqb-false (looked table state id) 0 e) (body_of id action (take (len - prefix_of l) (drop (prefix_of l) s))))
 
-  by-entry : ByEntry (table_judge table l root state s)
+  by_entry : ByEntry (table_judge table l root state s)
   unfolding table_judge judge_by
-  by-entry = by-head (head_of l root s) refl (of-head l root s)
+  by_entry = by_head (head_of l root s) refl (of_head l root s)
 
 module _ (table : List ℕ) (l : Layout) (s : List ℕ) where
   module _ (p : ReaderPlace) where
@@ -71,11 +71,11 @@ module _ (table : List ℕ) (l : Layout) (s : List ℕ) where
       abbrev Rest : List ℕ
       Rest = take (o.end - p.position) (drop p.position s)
 
-      by-judge : (j : Judged) → ByEntry table l false o.state Rest j →
+      by_judge : (j : Judged) → ByEntry table l false o.state Rest j →
           Driven (stepped p (entered p.position (λ state. with_state o state ∷ os) j))
       unfolding stepped entered
-      by-judge (Fault n k) w = (λ z. absurd (w.0 z), λ z. (o, os, is, w.1 z))
-      by-judge (Found id action own len next) w =
+      by_judge (Fault n k) w = (λ z. absurd (w.0 z), λ z. (o, os, is, w.1 z))
+      by_judge (Found id action own len next) w =
           let u = unit_from p.position id action own len in (
             λ z. (o, os, is, λ none. w.1 (w.0 ∙ none), ap (λ n. opened u (with_state o n ∷ os)) w.0),
             λ z. absurd (omega arith),
@@ -92,22 +92,22 @@ module _ (table : List ℕ) (l : Layout) (s : List ℕ) where
             (cond a (cond b (close os p.position) (incomplete o.start)) (left (o ∷ os)))))
         go true e true c = absurd (true≢false (sym c ∙ stops p.position p.units o os is (eqb-true o.end p.position e)))
         go true e false c = other 10 o.start (λ z. omega arith) (λ z. omega arith)
-        go false e b c = by-judge o os is (table_judge table l false o.state (Rest o os is)) (by-entry table l false o.state (Rest o os is))
+        go false e b c = by_judge o os is (table_judge table l false o.state (Rest o os is)) (by_entry table l false o.state (Rest o os is))
 
-    by-step : Driven (advanced_with (table_judge table l false) s p)
+    by_step : Driven (advanced_with (table_judge table l false) s p)
     unfolding step_with
-    by-step =
+    by_step =
         let judge = table_judge table l false in
         rw (advanced_with_is judge s p)
         (of_cond Driven (has_bytes (length s) p.position (unclosed p.units p.position) && has_room p (step_with judge s p.units p.position))
-        _ _ (λ e. rw (close-unclosed p.position p.units) (by_left (unclosed p.units p.position) refl))
+        _ _ (λ e. rw (close_unclosed p.position p.units) (by_left (unclosed p.units p.position) refl))
         (λ e. other no_step 0 (λ z. omega arith) (λ z. omega arith)))
 
     pub by_next : Driven (table_next table l s p)
     by_next =
         rw (table_tests table l s p)
         (of_cond Driven (is_empty p) _ _ (λ e. other 11 0 (λ z. omega arith) (λ z. omega arith))
-        (λ e. of_cond Driven (not (fits l (length s) p)) _ _ (λ e. other 2 0 (λ z. omega arith) (λ z. omega arith)) (λ e. by-step)))
+        (λ e. of_cond Driven (not (fits l (length s) p)) _ _ (λ e. other 2 0 (λ z. omega arith) (λ z. omega arith)) (λ e. by_step)))
 
   abbrev Begun : Reply → Type 0
   Begun r = (r.number ≡ 0 → looked table 0 r.handed.unit.id ≡ 0 → ⊥) × (r.number ≡ 7 → NoEntry table l true 0 s)
@@ -119,4 +119,4 @@ module _ (table : List ℕ) (l : Layout) (s : List ℕ) where
 
   pub by_first : Begun (table_first table l s)
   unfolding table_first
-  by_first = begun (table_judge table l true 0 s) (by-entry table l true 0 s)
+  by_first = begun (table_judge table l true 0 s) (by_entry table l true 0 s)

@@ -102,21 +102,21 @@ module _ (table : List ℕ) (state id : ℕ) where
   no_row h = rw (lt-ltb 30 state h)
 
   module _ (row : state ≤ 30) where
-    pub before-ids : id < 1 → 0 ≡ looked table state id
+    pub before_ids : id < 1 → 0 ≡ looked table state id
     unfolding looked
-    before-ids h = rw (le-ltb 30 state row, lt-ltb id 1 h)
+    before_ids h = rw (le-ltb 30 state row, lt-ltb id 1 h)
 
-    pub past-ids : 1 ≤ id → 14 < id → 0 ≡ looked table state id
+    pub past_ids : 1 ≤ id → 14 < id → 0 ≡ looked table state id
     unfolding looked
-    past-ids low h = rw (le-ltb 30 state row, le-ltb id 1 low, lt-ltb 14 id h)
+    past_ids low h = rw (le-ltb 30 state row, le-ltb id 1 low, lt-ltb 14 id h)
 
     pub at_entry : 1 ≤ id → id ≤ 14 → get_or table (state * 14 + (id - 1)) 0 ≡ looked table state id
     unfolding looked
     at_entry low high = rw (le-ltb 30 state row, le-ltb id 1 low, le-ltb 14 id high)
 
   -- For another state or id there is no entry.
-  pub no-entry : (30 < state) ⊎ ((id < 1) ⊎ (14 < id)) → looked table state id ≡ 0
+  pub no_entry : (30 < state) ⊎ ((id < 1) ⊎ (14 < id)) → looked table state id ≡ 0
   unfolding looked
-  no-entry (inl h) = rw (lt-ltb 30 state h)
-  no-entry (inr (inl h)) = rw (lt-ltb id 1 h) (both_zero (ltb 30 state))
-  no-entry (inr (inr h)) = rw (lt-ltb 14 id h) (rw (both_zero (ltb id 1)) (both_zero (ltb 30 state)))
+  no_entry (inl h) = rw (lt-ltb 30 state h)
+  no_entry (inr (inl h)) = rw (lt-ltb id 1 h) (both_zero (ltb 30 state))
+  no_entry (inr (inr h)) = rw (lt-ltb 14 id h) (rw (both_zero (ltb id 1)) (both_zero (ltb 30 state)))

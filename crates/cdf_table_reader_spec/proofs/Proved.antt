@@ -10,9 +10,9 @@ use Rattle.cdf_table_reader_spec.specs.Table.{looked, entries}
 use Rattle.cdf_table_reader_spec.specs.Samples.{tells, k2_calls, k2_due, k8, k8_calls, k8_due, k4_calls, k4_due}
 use Rattle.cdf_unit_list.specs.Samples.{k2, k4}
 use Rattle.cdf_table_reader_spec.specs.Claims.{Claims}
-use Rattle.cdf_table_reader_spec.proofs.Looks.{row_is, root_is, keeps, at_entry, no-entry}
+use Rattle.cdf_table_reader_spec.proofs.Looks.{row_is, root_is, keeps, at_entry, no_entry}
 use Rattle.cdf_table_reader_spec.proofs.Driven.{by_next, by_first}
-use Rattle.cdf_table_reader_spec.proofs.Alike.{run-alike}
+use Rattle.cdf_table_reader_spec.proofs.Alike.{run_alike}
 
 stays_in : (state id : ℕ) → (state ≡ 0 → ⊥) → (looked entries state id ≡ 0) ⊎ (unit_of (looked entries state id) ≡ unit_of state)
 stays_in state id some = rw (row_is state id some) (keeps state id)
@@ -35,10 +35,10 @@ example = (refl, refl, refl)
 
 pub claims : Claims
 claims = record {
-  placed = (full, λ table state id. (λ row low high. sym (at_entry table state id row low high), no-entry table state id));
+  placed = (full, λ table state id. (λ row low high. sym (at_entry table state id row low high), no_entry table state id));
   agrees = λ id. (λ state some. row_is state id some, root_is id);
   stays = λ id. (λ state some. stays_in state id some, starts id);
   driven = λ table l s. let begun = by_first table l s in (by_next table l s, begun.0, begun.1);
-  same = run-alike;
+  same = run_alike;
   example = example;
 }

@@ -6,7 +6,7 @@ use mathlib.Core.List.{List}
 use Rattle.cdf_unit_prefix.specs.Layout.{Layout}
 use Rattle.cdf_unit_data.specs.Data.{name_bytes}
 use Rattle.cdf_unit_judge.specs.Judge.{judge_by}
-use Rattle.cdf_unit_judge.proofs.Keeping.{Keeps, judged-lies}
+use Rattle.cdf_unit_judge.proofs.Keeping.{Keeps, judged_lies}
 use Rattle.cdf_table_reader_spec.specs.Table.{looked}
 use Rattle.cdf_table_reader_spec.specs.Calls.{table_judge}
 
@@ -18,4 +18,4 @@ table_is table l root state s = refl
 -- So what it finds lies in the bytes judged.
 pub table_keeps : (table : List ℕ) (l : Layout) (root : Bool) → Keeps (table_judge table l root)
 unfolding table_judge
-table_keeps table l root state s = judged-lies name_bytes l root (looked table state) s
+table_keeps table l root state s = judged_lies name_bytes l root (looked table state) s

@@ -12,27 +12,27 @@ use Rattle.cdf_unit_list.specs.Stack.{entered}
 use Rattle.cdf_unit_list.specs.declared.Unit.{Unit}
 use Rattle.cdf_unit_list.specs.declared.Open.{Open}
 use Rattle.cdf_unit_list.proofs.Entering.{unit_from}
-use Rattle.cdf_unit_list.proofs.Stepping.{faults, enters, opened-parent, opened-leaf}
+use Rattle.cdf_unit_list.proofs.Stepping.{faults, enters, opened_parent, opened_leaf}
 use Rattle.cdf_reader_spec.specs.Calls.{refuse, empty_place, stepped}
 use Rattle.cdf_reader_spec.specs.Slots.{no_open, no_ranks, around, open_units, open_ranks, place_of}
 use Rattle.cdf_table_reader_spec.specs.Calls.{table_judge, table_first}
 
 module _ (table : List ℕ) (l : Layout) (s : List ℕ) where
-  first-is : table_first table l s ≡ stepped empty_place (entered 0 (λ state. []) (table_judge table l true 0 s))
+  first_is : table_first table l s ≡ stepped empty_place (entered 0 (λ state. []) (table_judge table l true 0 s))
   unfolding table_first
-  first-is = refl
+  first_is = refl
 
-  pub first-fault : {n k : ℕ} → table_judge table l true 0 s ≡ Fault n k → table_first table l s ≡ refuse n k empty_place
+  pub first_fault : {n k : ℕ} → table_judge table l true 0 s ≡ Fault n k → table_first table l s ≡ refuse n k empty_place
   unfolding stepped
-  first-fault {n} {k} e =
+  first_fault {n} {k} e =
       let here : 0 + k ≡ k = omega arith in
-      rw (first-is, e, faults 0 (λ state. []) n k, here)
+      rw (first_is, e, faults 0 (λ state. []) n k, here)
 
   module _ {id action own len state : ℕ} (e : table_judge table l true 0 s ≡ Found id action own len state) (first : ℕ) (is : first ≡ nothing id) where
     abbrev Root : Unit
     Root = record { id = id; action = action; start = 0; own = own; end = len }
 
-    pub first-opens : (first ≡ 0 → ⊥) →
+    pub first_opens : (first ≡ 0 → ⊥) →
         let top : Open = record { state = first; start = 0; end = len } in
         table_first table l s
         ≡ record {
@@ -42,12 +42,12 @@ module _ (table : List ℕ) (l : Layout) (s : List ℕ) where
           place = place_of own 1 top no_open no_open no_open Root true no_ranks;
         }
     unfolding stepped open_units around open_ranks
-    first-opens some =
+    first_opens some =
         let opening = opens_by id first is some in
-        let w = opened-parent (unit_from 0 id action own len) [] opening in
+        let w = opened_parent (unit_from 0 id action own len) [] opening in
         let o : 0 + own ≡ own = omega arith in
         let n : 0 + len ≡ len = omega arith in
-        rw (first-is, e, enters 0 (λ state. []) id action own len state, w.0, w.1, opening, o, n, is)
+        rw (first_is, e, enters 0 (λ state. []) id action own len state, w.0, w.1, opening, o, n, is)
 
     pub first_leaf : first ≡ 0 →
         table_first table l s
@@ -60,7 +60,7 @@ module _ (table : List ℕ) (l : Layout) (s : List ℕ) where
     unfolding stepped open_units around open_ranks
     first_leaf none =
         let shut = leaf_by id first is none in
-        let w = opened-leaf (unit_from 0 id action own len) [] shut in
+        let w = opened_leaf (unit_from 0 id action own len) [] shut in
         let o : 0 + own ≡ own = omega arith in
         let n : 0 + len ≡ len = omega arith in
-        rw (first-is, e, enters 0 (λ state. []) id action own len state, w.0, w.1, shut, o, n)
+        rw (first_is, e, enters 0 (λ state. []) id action own len state, w.0, w.1, shut, o, n)

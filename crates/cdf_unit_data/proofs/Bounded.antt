@@ -51,15 +51,15 @@ module _ (s : List ℕ) where
   names id k o e =
       each (λ id. own_data id s ≡ Broken k) (call ∷ parameter ∷ template ∷ field ∷ entity_key ∷ []) (e, (rw e, (e, (rw e, (e, record {}))))) id o
 
-  value-is : (id at : ℕ) → ValueAt id s at → own_data id s ≡ value_from at s
+  value_is : (id at : ℕ) → ValueAt id s at → own_data id s ≡ value_from at s
   unfolding own_data_by data_by value_after
-  value-is id at (inl (o, e)) = each (λ id. own_data id s ≡ value_from at s) (parameter ∷ field ∷ []) (rw e, (rw e, record {})) id o
-  value-is id at (inr (o, e)) = each (λ id. own_data id s ≡ value_from at s) (template_key ∷ line ∷ []) (rw e, (rw e, record {})) id o
+  value_is id at (inl (o, e)) = each (λ id. own_data id s ≡ value_from at s) (parameter ∷ field ∷ []) (rw e, (rw e, record {})) id o
+  value_is id at (inr (o, e)) = each (λ id. own_data id s ≡ value_from at s) (template_key ∷ line ∷ []) (rw e, (rw e, record {})) id o
 
   pub values : (id at k : ℕ) → ValueAt id s at → (own_data id s ≡ Broken k) ↔ ((at + 4096 < length s) × (k ≡ at + 4096))
   unfolding value_from
   values id at k w =
-      rw (value-is id at w) (broken_if (leb (length s) (at + 4096)) (at + 4096 < length s) at (at + 4096) k (over (length s) (at + 4096)))
+      rw (value_is id at w) (broken_if (leb (length s) (at + 4096)) (at + 4096 < length s) at (at + 4096) k (over (length s) (at + 4096)))
 
   pub cut_short : (id n k : ℕ) → Leading id n → (own_data id s ≡ Broken k) ↔ ((length s < n) × (k ≡ 0))
   unfolding own_data_by data_by numbers_of

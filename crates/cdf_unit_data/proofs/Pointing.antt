@@ -13,7 +13,7 @@ use Rattle.cdf_unit_table.proofs.Bools.{both, clash}
 use Rattle.cdf_unit_data.specs.Data.{letter, name_byte, name_bytes, run_by, front_by, name_by, name_run, name_front, spelled, name_of}
 use Rattle.cdf_unit_data.specs.Claims.{Agree, Named, lettered}
 use Rattle.cdf_unit_data.specs.declared.Own.TheVariants.{Taken, Broken}
-use Rattle.cdf_unit_data.proofs.Names.{front-short}
+use Rattle.cdf_unit_data.proofs.Names.{front_short}
 
 -- One more byte in front, which may stand where it does (`p`) or not.
 abbrev more : Bool → ℕ → ℕ
@@ -99,7 +99,7 @@ broken count s k e = go (counts count (length s)) refl e
     spell : (b : Bool) → eqb front count ≡ b → cond b (Taken (1 + count)) (Broken (1 + front)) ≡ Broken k → (k ≡ suc front) × (front < count)
     spell true q e = clash cc
     spell false q e =
-        let same : 1 + front ≡ k = cc in (omega arith, omega (arith, eqb-false front count q, front-short name_bytes count s))
+        let same : 1 + front ≡ k = cc in (omega arith, omega (arith, eqb-false front count q, front_short name_bytes count s))
 
     go : (b : Bool) → counts count (length s) ≡ b → cond b (spelled count front) (Broken 0) ≡ Broken k →
         ((counts count (length s) ≡ false) × (k ≡ 0)) ⊎ Bad count s k

@@ -13,7 +13,7 @@ use Rattle.cdf_unit_data.specs.Data.{NameBytes, front_by, spelled, name_by, valu
 use Rattle.cdf_unit_data.specs.declared.Own.{Own}
 use Rattle.cdf_unit_data.specs.declared.Own.TheVariants.{Taken, Broken}
 use Rattle.cdf_unit_table.proofs.Bools.{both, of_cond}
-use Rattle.cdf_unit_data.proofs.Names.{front-short}
+use Rattle.cdf_unit_data.proofs.Names.{front_short}
 
 -- What is taken, and the first byte that breaks a rule: neither is past n.
 abbrev Fits : ℕ → Own → Type 0
@@ -33,7 +33,7 @@ name_fits w (count ∷ s) n few =
     of_cond (Fits n) (leb 1 count && (leb count 32 && leb count (length s))) _ (Broken 0)
     (λ e. let h = both (leb count 32) (leb count (length s)) (both (leb 1 count) _ e).1 in
     let within = leb-true count (length s) h.1 in
-    spelled_fits count (front_by w (take count s)) n (few count (leb-true count 32 h.0) (omega arith)) (front-short w count s))
+    spelled_fits count (front_by w (take count s)) n (few count (leb-true count 32 h.0) (omega arith)) (front_short w count s))
     (λ e. omega arith)
 
 pub name_short : (w : NameBytes) (s : List ℕ) (k : ℕ) → name_by w s ≡ Taken k → k ≤ 33

@@ -42,9 +42,9 @@ OfJudged l root s (Fault n k) = Told l root s n k
 OfJudged l root s (Found id action own len state) = record {}
 
 module _ (l : Layout) (root : Bool) (s : List ℕ) where
-  pub of-head : OfHeader (head_of l root s)
+  pub of_head : OfHeader (head_of l root s)
   unfolding head_of
-  of-head =
+  of_head =
       of_cond OfHeader (ltb (length s) (prefix_of l)) (Stop 3) _ (λ e. omega arith)
       (λ e. of_cond OfHeader (not (marked l s)) (Stop 4) _ (λ e. omega arith)
       (λ e. of_cond OfHeader (ltb (length_at l s) (prefix_of l)) (Stop 5) _ (λ e. omega arith)
@@ -53,8 +53,8 @@ module _ (l : Layout) (root : Bool) (s : List ℕ) where
       (λ e. record {})))))
 
   -- Any rule but that of the own data is told at the unit's start.
-  at-start : (n : ℕ) → 3 ≤ n → n ≤ 8 → Told l root s n 0
-  at-start n low high = record {
+  at_start : (n : ℕ) → 3 ≤ n → n ≤ 8 → Told l root s n 0
+  at_start n low high = record {
     low = low;
     high = omega arith;
     lies = omega arith;
@@ -63,22 +63,22 @@ module _ (l : Layout) (root : Bool) (s : List ℕ) where
     inside = λ e. absurd (omega arith);
   }
 
-  of-body : (id action len state : ℕ) (c : Body) → ((k : ℕ) → c ≡ Data k → Told l root s 9 (prefix_of l + k)) →
+  of_body : (id action len state : ℕ) (c : Body) → ((k : ℕ) → c ≡ Data k → Told l root s 9 (prefix_of l + k)) →
       OfJudged l root s (found_by l id action len state c)
   unfolding found_by
-  of-body id action len state Action told = at-start 8 (omega arith) (omega arith)
-  of-body id action len state (Data k) told = told k refl
-  of-body id action len state (Whole k) told = record {}
+  of_body id action len state Action told = at_start 8 (omega arith) (omega arith)
+  of_body id action len state (Data k) told = told k refl
+  of_body id action len state (Whole k) told = record {}
 
-  by-head : (w : NameBytes) (state : ℕ) (h : Header) → head_of l root s ≡ h → OfHeader h → OfJudged l root s (judge_head w l (admits root state) s h)
+  by_head : (w : NameBytes) (state : ℕ) (h : Header) → head_of l root s ≡ h → OfHeader h → OfJudged l root s (judge_head w l (admits root state) s h)
   unfolding judge_head
-  by-head w state (Stop n) q p = at-start n p.0 (omega arith)
-  by-head w state (Prefix id action len) q p =
+  by_head w state (Stop n) q p = at_start n p.0 (omega arith)
+  by_head w state (Prefix id action len) q p =
       let rest = take (len - prefix_of l) (drop (prefix_of l) s) in
       let fit = headed l root s id action len q in
       let long : length rest ≡ len - prefix_of l = simp (length-take, length-drop) (omega arith) in
-      of_cond (OfJudged l root s) (eqb (admits root state id) 0) (Fault 7 0) _ (λ e. at-start 7 (omega arith) (omega arith))
-      (λ may. of-body id action len (admits root state id) (body_by w id action rest)
+      of_cond (OfJudged l root s) (eqb (admits root state id) 0) (Fault 7 0) _ (λ e. at_start 7 (omega arith) (omega arith))
+      (λ may. of_body id action len (admits root state id) (body_by w id action rest)
       (λ k e. let few = fault_fits w id action rest k e in record {
         low = omega arith;
         high = omega arith;
@@ -88,15 +88,15 @@ module _ (l : Layout) (root : Bool) (s : List ℕ) where
         inside = λ nine. omega (arith, fit.is_length);
       }))
 
-  of-judge : (w : NameBytes) (state : ℕ) → OfJudged l root s (judge_in w l root state s)
+  of_judge : (w : NameBytes) (state : ℕ) → OfJudged l root s (judge_in w l root state s)
   unfolding judge_in judge_by
-  of-judge w state = by-head w state (head_of l root s) refl of-head
+  of_judge w state = by_head w state (head_of l root s) refl of_head
 
-  pub told-by : (w : NameBytes) (state : ℕ) {n k : ℕ} → judge_in w l root state s ≡ Fault n k → Told l root s n k
-  told-by w state e = subst (OfJudged l root s) e (of-judge w state)
+  pub told_by : (w : NameBytes) (state : ℕ) {n k : ℕ} → judge_in w l root state s ≡ Fault n k → Told l root s n k
+  told_by w state e = subst (OfJudged l root s) e (of_judge w state)
 
   pub told : (state : ℕ) {n k : ℕ} → judge_of l root state s ≡ Fault n k → Told l root s n k
-  told = told-by name_bytes
+  told = told_by name_bytes
 
 pub offset_lies : (l : Layout) (root : Bool) (state : ℕ) (s : List ℕ) {n k : ℕ} → judge_of l root state s ≡ Fault n k → k ≤ length s
 offset_lies l root state s e = (told l root s state e).lies

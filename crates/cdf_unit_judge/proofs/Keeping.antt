@@ -30,34 +30,34 @@ abbrev pub Keeps : (ℕ → List ℕ → Judged) → Type 0
 Keeps judge = (state : ℕ) (t : List ℕ) → Lies (length t) (judge state t)
 
 module _ (w : NameBytes) (l : Layout) (root : Bool) (admitted : ℕ → ℕ) (s : List ℕ) where
-  of-body : (id action len next : ℕ) → prefix_of l ≤ len → len ≤ length s → (c : Body) →
+  of_body : (id action len next : ℕ) → prefix_of l ≤ len → len ≤ length s → (c : Body) →
       body_by w id action (take (len - prefix_of l) (drop (prefix_of l) s)) ≡ c → Lies (length s) (found_by l id action len next c)
   unfolding found_by
-  of-body id action len next low high Action e = omega arith
-  of-body id action len next low high (Data k) e =
+  of_body id action len next low high Action e = omega arith
+  of_body id action len next low high (Data k) e =
       let rest = take (len - prefix_of l) (drop (prefix_of l) s) in
       let few = fault_fits w id action rest k e in
       let long : length rest ≡ len - prefix_of l = simp (length-take, length-drop) (omega arith) in
       omega arith
-  of-body id action len next low high (Whole k) e =
+  of_body id action len next low high (Whole k) e =
       let rest = take (len - prefix_of l) (drop (prefix_of l) s) in
       let few = body_fits w id action rest k e in
       let long : length rest ≡ len - prefix_of l = simp (length-take, length-drop) (omega arith) in
       (omega arith, high)
 
-  of-head : (h : Header) → head_of l root s ≡ h → Lies (length s) (judge_head w l admitted s h)
+  of_head : (h : Header) → head_of l root s ≡ h → Lies (length s) (judge_head w l admitted s h)
   unfolding judge_head
-  of-head (Stop n) q = omega arith
-  of-head (Prefix id action len) q =
+  of_head (Stop n) q = omega arith
+  of_head (Prefix id action len) q =
       let fit = headed l root s id action len q in
       of_cond (Lies (length s)) (eqb (admitted id) 0) (Fault 7 0) _ (λ e. omega arith)
-      (λ e. of-body id action len (admitted id) fit.low fit.fit.high (body_by w id action (take (len - prefix_of l) (drop (prefix_of l) s))) refl)
+      (λ e. of_body id action len (admitted id) fit.low fit.fit.high (body_by w id action (take (len - prefix_of l) (drop (prefix_of l) s))) refl)
 
-  pub judged-lies : Lies (length s) (judge_by w l root admitted s)
+  pub judged_lies : Lies (length s) (judge_by w l root admitted s)
   unfolding judge_by
-  judged-lies = of-head (head_of l root s) refl
+  judged_lies = of_head (head_of l root s) refl
 
 -- So it is where the rows admit.
 pub in_keeps : (w : NameBytes) (l : Layout) (root : Bool) → Keeps (judge_in w l root)
 unfolding judge_in
-in_keeps w l root state s = judged-lies w l root (admits root state) s
+in_keeps w l root state s = judged_lies w l root (admits root state) s

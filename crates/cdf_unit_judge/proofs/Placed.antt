@@ -159,11 +159,11 @@ module _ (w : NameBytes) (l : Layout) (root : Bool) (state : ℕ) (s : List ℕ)
         short = h.fit.short;
       }
 
-  by-head : (h : Header) {id action own len next : ℕ} → head_of l root s ≡ h →
+  by_head : (h : Header) {id action own len next : ℕ} → head_of l root s ≡ h →
       judge_head w l (admits root state) s h ≡ Found id action own len next → PlacedBy w l root state s id action own len next
   unfolding judge_head found_by
-  by-head (Stop n) q e = clash cc
-  by-head (Prefix i a n) {id} {action} {own} {len} {next} q e =
+  by_head (Stop n) q e = clash cc
+  by_head (Prefix i a n) {id} {action} {own} {len} {next} q e =
       let passes = past (eqb (admits root state i) 0) (Fault 7 0) _ (λ e. clash cc) e in
       by_body (body_by w i a (take (n - prefix_of l) (drop (prefix_of l) s))) passes.1
       (λ k. found i a n k (headed l root s i a n q) (eqb-false _ 0 passes.0))
@@ -184,7 +184,7 @@ module _ (w : NameBytes) (l : Layout) (root : Bool) (state : ℕ) (s : List ℕ)
   pub placed_by : {id action own len next : ℕ} → judge_in w l root state s ≡ Found id action own len next →
       PlacedBy w l root state s id action own len next
   unfolding judge_in judge_by
-  placed_by e = by-head (head_of l root s) refl e
+  placed_by e = by_head (head_of l root s) refl e
 
 module _ (l : Layout) (root : Bool) (state : ℕ) (s : List ℕ) where
   pub placed : {id action own len next : ℕ} → judge_of l root state s ≡ Found id action own len next →

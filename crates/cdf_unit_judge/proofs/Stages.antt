@@ -32,24 +32,24 @@ module _ (l : Layout) (root : Bool) (s : List ℕ) (h : Header) (head : h ≡ he
 
   -- by any admission
   module _ (w : NameBytes) (admission : ℕ → ℕ) where
-    by-head : judge_head w l admission s h ≡ judge_by w l root admission s
+    by_head : judge_head w l admission s h ≡ judge_by w l root admission s
     unfolding judge_by
-    by-head = ap (judge_head w l admission s) head
+    by_head = ap (judge_head w l admission s) head
 
     pub stopped : {n : ℕ} → h ≡ Stop n → Fault n 0 ≡ judge_by w l root admission s
     unfolding judge_head
-    stopped e = rw e at by-head
+    stopped e = rw e at by_head
 
     module _ {id action len : ℕ} (e : h ≡ Prefix id action len) (next : ℕ) (may : next ≡ admission id) where
       pub refused : next ≡ 0 → Fault 7 0 ≡ judge_by w l root admission s
       unfolding judge_head
-      refused z = rw (e, ← may, eq-eqb next 0 z) at by-head
+      refused z = rw (e, ← may, eq-eqb next 0 z) at by_head
 
       -- The prefix has p bytes.
       pub admitted : (next ≡ 0 → ⊥) → (p : ℕ) → p ≡ prefix_of l →
           found_by l id action len next (body_by w id action (take (len - p) (drop p s))) ≡ judge_by w l root admission s
       unfolding judge_head
-      admitted some p q = rw q (rw (e, ← may, ne_eqb next 0 some) at by-head)
+      admitted some p q = rw q (rw (e, ← may, ne_eqb next 0 some) at by_head)
 
 -- The rows admit.
 pub in_is : (w : NameBytes) (l : Layout) (root : Bool) (state : ℕ) (s : List ℕ) → judge_by w l root (admits root state) s ≡ judge_in w l root state s
@@ -81,24 +81,24 @@ root_whole w true state id action t {k} some e =
     clash cc
 
 module _ (l : Layout) (s : List ℕ) (h : Header) (head : h ≡ head_of l true s) {id action len : ℕ} (e : h ≡ Prefix id action len) where
-  pub root-other : root_kind id ≡ false → Fault 7 0 ≡ judge_of l true 0 s
+  pub root_other : root_kind id ≡ false → Fault 7 0 ≡ judge_of l true 0 s
   unfolding admits
-  root-other k =
+  root_other k =
       refused l true s h head name_bytes (admits true 0) e (cond (root_kind id) (nothing id) 0) refl (rw k) ∙ in_is name_bytes l true 0 s
 
-  root-body : root_kind id ≡ true → {d : Body} → body_of id action (take (len - prefix_of l) (drop (prefix_of l) s)) ≡ d →
+  root_body : root_kind id ≡ true → {d : Body} → body_of id action (take (len - prefix_of l) (drop (prefix_of l) s)) ≡ d →
       found_by l id action len (nothing id) d ≡ judge_of l true 0 s
-  root-body k q =
+  root_body k q =
       rw (← q)
       (admitted l true s h head name_bytes (admits true 0) e (nothing id) (sym (admits_root 0 id k)) (root_opens id k) (prefix_of l) refl
       ∙ in_is name_bytes l true 0 s)
 
-  pub root-acts : root_kind id ≡ true → (action ≡ 0 → ⊥) → Fault 8 0 ≡ judge_of l true 0 s
+  pub root_acts : root_kind id ≡ true → (action ≡ 0 → ⊥) → Fault 8 0 ≡ judge_of l true 0 s
   unfolding body_by found_by
-  root-acts k some = root-body k {d = Action} (rw ((root_is id k).acts action, ne_eqb action 0 some))
+  root_acts k some = root_body k {d = Action} (rw ((root_is id k).acts action, ne_eqb action 0 some))
 
-  pub root-found : root_kind id ≡ true → action ≡ 0 → Found id action (prefix_of l) len (nothing id) ≡ judge_of l true 0 s
+  pub root_found : root_kind id ≡ true → action ≡ 0 → Found id action (prefix_of l) len (nothing id) ≡ judge_of l true 0 s
   unfolding body_by data_body found_by
-  root-found k none =
+  root_found k none =
       let whole : prefix_of l + 0 ≡ prefix_of l = omega arith in
-      rw whole at (root-body k {d = Whole 0} (rw ((root_is id k).acts action, eq-eqb action 0 none, (root_is id k).own name_bytes)))
+      rw whole at (root_body k {d = Whole 0} (rw ((root_is id k).acts action, eq-eqb action 0 none, (root_is id k).own name_bytes)))

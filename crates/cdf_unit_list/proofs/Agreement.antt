@@ -19,7 +19,7 @@ use Rattle.cdf_unit_judge.specs.declared.Judged.{Judged}
 use Rattle.cdf_unit_judge.specs.declared.Judged.TheVariants.{Fault, Found}
 use Rattle.cdf_unit_judge.proofs.Placed.{placed}
 use Rattle.cdf_unit_list.proofs.Nested.{Nested}
-use Rattle.cdf_unit_list.proofs.StatesListed.{open_of, Before, inner-state, outer-open}
+use Rattle.cdf_unit_list.proofs.StatesListed.{open_of, Before, inner_state, outer_open}
 use Rattle.cdf_unit_list.proofs.Closing.{Closes, stops, leaves, closes}
 use Rattle.cdf_unit_list.proofs.Entering.{Bounded, Follow, Enters, enter, opened_bounded, unit_from}
 use Rattle.cdf_unit_table.proofs.Heights.{falls, opens_lower, height_most}
@@ -41,11 +41,11 @@ unit_agrees us pos around (Found id action own len state) enters =
     both_list e.shallow (enter us (around state) (unit_from pos id action own len) e)
 
 module _ (l : Layout) (s : List ℕ) where
-  pub within-agrees : (us : List Unit) (pos : ℕ) → Before pos us → (ws : List Unit) → open_at pos us ≡ ws → Nested pos (suc pos) ws →
+  pub within_agrees : (us : List Unit) (pos : ℕ) → Before pos us → (ws : List Unit) → open_at pos us ≡ ws → Nested pos (suc pos) ws →
       Bounded (map (open_of us) ws) → Agrees us (within l s us pos ws) (step_in l s pos (left (map (open_of us) ws)))
   unfolding within step_in_by with_state admits
-  within-agrees us pos before [] e h heights = both_end
-  within-agrees us pos before (o ∷ ws) e h heights =
+  within_agrees us pos before [] e h heights = both_end
+  within_agrees us pos before (o ∷ ws) e h heights =
       let rest = take (o.end - pos) (drop pos s) in
       let few = length-take (o.end - pos) (drop pos s) in
       unit_agrees us pos (λ state. with_state (open_of us o) state ∷ map (open_of us) ws) (judge_of l false (state_of us o) rest)
@@ -58,7 +58,7 @@ module _ (l : Layout) (s : List ℕ) where
       record {
         own = omega arith;
         end = omega arith;
-        around = rw (e, inner-state v us o ws e ∙ p.may, outer-open v us o ws e ws o.end h.2);
+        around = rw (e, inner_state v us o ws e ∙ p.may, outer_open v us o ws e ws o.end h.2);
         nested = rw e (h.0, omega arith, h.2);
         before = before;
         bounded = opened_bounded v around (λ x. omega (arith, (opens_lower id x).same)) (omega arith, heights.1);
@@ -70,10 +70,10 @@ module _ (l : Layout) (s : List ℕ) where
   OfClosing (incomplete at) = record {}
   OfClosing (left os) = Bounded os
 
-  pub close-bounded : (os : List Open) (pos : ℕ) → Bounded os → OfClosing (close os pos)
+  pub close_bounded : (os : List Open) (pos : ℕ) → Bounded os → OfClosing (close os pos)
   unfolding close
-  close-bounded [] pos h = record {}
-  close-bounded (o ∷ os) pos h = go (eqb o.end pos) (complete o.state) (close-bounded os pos h.1)
+  close_bounded [] pos h = record {}
+  close_bounded (o ∷ os) pos h = go (eqb o.end pos) (complete o.state) (close_bounded os pos h.1)
     where
       go : (a b : Bool) → OfClosing (close os pos) →
           OfClosing (cond a (cond b (close os pos) (incomplete o.start)) (left (o ∷ os)))
@@ -81,22 +81,22 @@ module _ (l : Layout) (s : List ℕ) where
       go true false c = record {}
       go false b c = h
 
-  pub next-agrees : (us : List Unit) (os : List Open) (pos : ℕ) → Follow us os pos → Agrees us (next_at l s us pos) (step l s os pos)
+  pub next_agrees : (us : List Unit) (os : List Open) (pos : ℕ) → Follow us os pos → Agrees us (next_at l s us pos) (step l s os pos)
   unfolding next_at or_else step_by step_in_by
-  next-agrees us os pos f =
-      rw f.stack (go (closes us pos us f.nested) (rw f.stack at (close-bounded os pos f.bounded)))
+  next_agrees us os pos f =
+      rw f.stack (go (closes us pos us f.nested) (rw f.stack at (close_bounded os pos f.bounded)))
     where
       go : {n : Next} {c : Closing} → Closes us pos (open_at pos us) n c → OfClosing c →
           Agrees us (or_else n (within l s us pos (open_at pos us))) (step_in l s pos c)
       go stops heights = both_refuse
-      go (leaves h) heights = within-agrees us pos f.before (open_at pos us) refl h heights
+      go (leaves h) heights = within_agrees us pos f.before (open_at pos us) refl h heights
 
-  steps-agree : (fuel : ℕ) (first : Judged) (us : List Unit) (x : Step) → Agrees us (next l s first us) x →
+  steps_agree : (fuel : ℕ) (first : Judged) (us : List Unit) (x : Step) → Agrees us (next l s first us) x →
       steps_from fuel l s x us ≡ list_from fuel l s first us
   unfolding steps_from list_from go_on next
-  steps-agree zero first us x a = refl
-  steps-agree (suc fuel) first us x a =
-      go a (λ v os f. steps-agree fuel first (v ∷ us) (step l s os (after v)) (next-agrees (v ∷ us) os (after v) f))
+  steps_agree zero first us x a = refl
+  steps_agree (suc fuel) first us x a =
+      go a (λ v os f. steps_agree fuel first (v ∷ us) (step l s os (after v)) (next_agrees (v ∷ us) os (after v) f))
     where
       go : {n : Next} {x : Step} → Agrees us n x →
           ((v : Unit) (os : List Open) → Follow (v ∷ us) os (after v) →
@@ -107,9 +107,9 @@ module _ (l : Layout) (s : List ℕ) where
       go (both_list {u = v} {os = os} shallow f) more = more v os f
 
   -- The first unit: nothing is open around it.
-  pub first-agrees : (root : Bool) (state : ℕ) → Agrees [] (unit_at 0 (judge_of l root state s)) (entered 0 (λ state. []) (judge_of l root state s))
+  pub first_agrees : (root : Bool) (state : ℕ) → Agrees [] (unit_at 0 (judge_of l root state s)) (entered 0 (λ state. []) (judge_of l root state s))
   unfolding open_at parents_that
-  first-agrees root state =
+  first_agrees root state =
       unit_agrees [] 0 (λ state. []) (judge_of l root state s) (λ id action own len next q.
       let p = placed l root state s q in
       let v = unit_from 0 id action own len in
@@ -125,4 +125,4 @@ module _ (l : Layout) (s : List ℕ) where
 
   pub follows : (root : Bool) (state : ℕ) → steps l s (judge_of l root state s) ≡ list_by l s (judge_of l root state s)
   unfolding steps list_by next
-  follows root state = steps-agree (suc (length s)) (judge_of l root state s) [] _ (first-agrees root state)
+  follows root state = steps_agree (suc (length s)) (judge_of l root state s) [] _ (first_agrees root state)

@@ -12,7 +12,7 @@ use Rattle.cdf_unit_list.specs.declared.Unit.{Unit}
 use Rattle.cdf_unit_list.specs.declared.Open.{Open}
 use Rattle.cdf_unit_judge.specs.declared.Judged.{Judged}
 use Rattle.cdf_unit_list.proofs.Entering.{Follow}
-use Rattle.cdf_unit_list.proofs.Agreement.{Agrees, both_end, both_refuse, both_list, first-agrees, next-agrees}
+use Rattle.cdf_unit_list.proofs.Agreement.{Agrees, both_end, both_refuse, both_list, first_agrees, next_agrees}
 
 -- What holds of each unit and those before it; the last one first.
 abbrev pub Each : (List Unit → Unit → Type 0) → List Unit → Type 0
@@ -37,12 +37,12 @@ depths_few (v ∷ vs) us h zero = let w = earlier AtMostFour vs (v ∷ us) h in 
 depths_few (v ∷ vs) us h (suc k) = depths_few vs (v ∷ us) h k
 
 module _ (l : Layout) (s : List ℕ) (first : Judged) where
-  list-shallow : (fuel : ℕ) (us : List Unit) → Shallow us → {x : Step} → Agrees us (next l s first us) x →
+  list_shallow : (fuel : ℕ) (us : List Unit) → Shallow us → {x : Step} → Agrees us (next l s first us) x →
       Shallow (reverse (list_from fuel l s first us).units)
   unfolding list_from go_on next
-  list-shallow zero us h a = rw reverse-reverse h
-  list-shallow (suc fuel) us h a =
-      go a (λ v os f few. list-shallow fuel (v ∷ us) (few, h) (next-agrees l s (v ∷ us) os (after v) f))
+  list_shallow zero us h a = rw reverse-reverse h
+  list_shallow (suc fuel) us h a =
+      go a (λ v os f few. list_shallow fuel (v ∷ us) (few, h) (next_agrees l s (v ∷ us) os (after v) f))
     where
       go : {n : Next} {x : Step} → Agrees us n x →
           ((v : Unit) (os : List Open) → Follow (v ∷ us) os (after v) → length (open_at v.start us) ≤ 4 →
@@ -57,4 +57,4 @@ pub shallow : (l : Layout) (s : List ℕ) (root : Bool) (state k : ℕ) →
 unfolding list_by next
 shallow l s root state k =
     let first = judge_of l root state s in
-    depths_few (list_by l s first).units [] (list-shallow l s first (suc (length s)) [] (record {}) (first-agrees l s root state)) k
+    depths_few (list_by l s first).units [] (list_shallow l s first (suc (length s)) [] (record {}) (first_agrees l s root state)) k

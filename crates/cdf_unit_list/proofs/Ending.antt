@@ -18,7 +18,7 @@ use Rattle.cdf_unit_table.proofs.Bools.{of_cond}
 
 module _ (l : Layout) (s : List ℕ) (first : Judged) (P : List Unit → ℕ → ℕ → Type 0)
     (at_first : (n k : ℕ) → first ≡ Fault n k → P [] n k)
-    (at-end : (us : List Unit) (u : Unit) → P us 10 u.start)
+    (at_end_lem : (us : List Unit) (u : Unit) → P us 10 u.start)
     (at_unit : (u : Unit) (us : List Unit) (state m n k : ℕ) → judge_of l false state (take m (drop (after u) s)) ≡ Fault n k →
     P (u ∷ us) n (after u + k)) where
   abbrev OfNext : List Unit → Next → Type 0
@@ -36,16 +36,16 @@ module _ (l : Layout) (s : List ℕ) (first : Judged) (P : List Unit → ℕ →
   of_unit us pos (Fault n k) told = told n k refl
   of_unit us pos (Found id action own len state) told = record {}
 
-  of-closed : (us cs : List Unit) → OfNext us (closed us cs)
+  of_closed : (us cs : List Unit) → OfNext us (closed us cs)
   unfolding closed
-  of-closed us [] = record {}
-  of-closed us (u ∷ cs) =
-      of_cond (OfNext us) (complete (state_of us u)) (closed us cs) (broken 10 u.start) (λ e. of-closed us cs) (λ e. at-end us u)
+  of_closed us [] = record {}
+  of_closed us (u ∷ cs) =
+      of_cond (OfNext us) (complete (state_of us u)) (closed us cs) (broken 10 u.start) (λ e. of_closed us cs) (λ e. at_end_lem us u)
 
-  of-within : (u : Unit) (us os : List Unit) → OfNext (u ∷ us) (within l s (u ∷ us) (after u) os)
+  of_within : (u : Unit) (us os : List Unit) → OfNext (u ∷ us) (within l s (u ∷ us) (after u) os)
   unfolding within
-  of-within u us [] = record {}
-  of-within u us (o ∷ os) =
+  of_within u us [] = record {}
+  of_within u us (o ∷ os) =
       of_unit (u ∷ us) (after u) (judge_of l false (state_of (u ∷ us) o) (take (o.end - after u) (drop (after u) s)))
       (at_unit u us (state_of (u ∷ us) o) (o.end - after u))
 
@@ -55,20 +55,20 @@ module _ (l : Layout) (s : List ℕ) (first : Judged) (P : List Unit → ℕ →
   of_either us (broken n at) b p q = p
   of_either us (listed u) b p q = p
 
-  of-next : (us : List Unit) → OfNext us (next l s first us)
+  of_next : (us : List Unit) → OfNext us (next l s first us)
   unfolding next next_at
-  of-next [] = of_unit [] 0 first (λ n k e. let same : 0 + k ≡ k = omega arith in rw same (at_first n k e))
-  of-next (u ∷ us) =
-      of_either (u ∷ us) (closed (u ∷ us) (closing_at (after u) (u ∷ us))) _ (of-closed (u ∷ us) (closing_at (after u) (u ∷ us)))
-      (of-within u us (open_at (after u) (u ∷ us)))
+  of_next [] = of_unit [] 0 first (λ n k e. let same : 0 + k ≡ k = omega arith in rw same (at_first n k e))
+  of_next (u ∷ us) =
+      of_either (u ∷ us) (closed (u ∷ us) (closing_at (after u) (u ∷ us))) _ (of_closed (u ∷ us) (closing_at (after u) (u ∷ us)))
+      (of_within u us (open_at (after u) (u ∷ us)))
 
   abbrev OfListing : Listing → Type 0
   OfListing r = OfEnd (reverse r.units) r.end
 
-  of-list : (f : ℕ) (us : List Unit) → OfListing (list_from f l s first us)
+  of_list : (f : ℕ) (us : List Unit) → OfListing (list_from f l s first us)
   unfolding list_from
-  of-list zero us = record {}
-  of-list (suc f) us = go (next l s first us) (of-next us) (of-list f)
+  of_list zero us = record {}
+  of_list (suc f) us = go (next l s first us) (of_next us) (of_list f)
     where
       go : (n : Next) → OfNext us n → ((us : List Unit) → OfListing (list_from f l s first us)) →
           OfListing (go_on (list_from f l s first) us n)
@@ -76,6 +76,6 @@ module _ (l : Layout) (s : List ℕ) (first : Judged) (P : List Unit → ℕ →
       go (broken n at) q more = rw reverse-reverse q
       go (listed u) q more = more (u ∷ us)
 
-  pub at-fault : {n at : ℕ} → (list_by l s first).end ≡ fault n at → P (reverse (list_by l s first).units) n at
+  pub at_fault : {n at : ℕ} → (list_by l s first).end ≡ fault n at → P (reverse (list_by l s first).units) n at
   unfolding list_by
-  at-fault e = subst (OfEnd (reverse (list_by l s first).units)) e (of-list (suc (length s)) [])
+  at_fault e = subst (OfEnd (reverse (list_by l s first).units)) e (of_list (suc (length s)) [])

@@ -27,10 +27,10 @@ module _ (l : Layout) (s : List ℕ) where
   Further pos (refused n at) = record {}
   Further pos (found u os later) = (pos + prefix_of l ≤ later) × (later ≤ length s) × (u.start ≡ pos)
 
-  pub unit-further : (pos : ℕ) (root : Bool) (state : ℕ) (t : List ℕ) (around : ℕ → List Open) → length t ≤ length s - pos →
+  pub unit_further : (pos : ℕ) (root : Bool) (state : ℕ) (t : List ℕ) (around : ℕ → List Open) → length t ≤ length s - pos →
       Further pos (entered pos around (judge_of l root state t))
   unfolding entered
-  unit-further pos root state t around h = go (judge_of l root state t) refl
+  unit_further pos root state t around h = go (judge_of l root state t) refl
     where
       go : (j : Judged) → judge_of l root state t ≡ j → Further pos (entered pos around j)
       go (Fault n k) e = record {}
@@ -39,29 +39,29 @@ module _ (l : Layout) (s : List ℕ) where
           let between = after_between (unit_from pos id action own len) (omega arith) in
           (omega arith, omega arith, refl)
 
-  pub step-further : (pos : ℕ) (os : List Open) → Further pos (step l s os pos)
+  pub step_further : (pos : ℕ) (os : List Open) → Further pos (step l s os pos)
   unfolding step_by step_in_by
-  step-further pos os = go (close os pos)
+  step_further pos os = go (close os pos)
     where
       go : (c : Closing) → Further pos (step_in l s pos c)
       go (incomplete at) = record {}
       go (left []) = record {}
       go (left (o ∷ os)) =
-          unit-further pos false o.state (take (o.end - pos) (drop pos s)) (λ state. with_state o state ∷ os)
+          unit_further pos false o.state (take (o.end - pos) (drop pos s)) (λ state. with_state o state ∷ os)
           (simp (length-take, length-drop) (omega arith))
 
-  few-from : (fuel : ℕ) (us : List Unit) (pos : ℕ) (x : Step) → length us * prefix_of l ≤ pos → pos ≤ length s → Further pos x →
+  few_from : (fuel : ℕ) (us : List Unit) (pos : ℕ) (x : Step) → length us * prefix_of l ≤ pos → pos ≤ length s → Further pos x →
       length (steps_from fuel l s x us).units * prefix_of l ≤ length s
   unfolding steps_from
-  few-from zero us pos x p q f = simp length-reverse (omega arith)
-  few-from (suc fuel) us pos done p q f = simp length-reverse (omega arith)
-  few-from (suc fuel) us pos (refused n at) p q f = simp length-reverse (omega arith)
-  few-from (suc fuel) us pos (found u os later) p q f =
-      few-from fuel (u ∷ us) later (step l s os later) (simp suc-mul (omega arith)) f.1 (step-further later os)
+  few_from zero us pos x p q f = simp length-reverse (omega arith)
+  few_from (suc fuel) us pos done p q f = simp length-reverse (omega arith)
+  few_from (suc fuel) us pos (refused n at) p q f = simp length-reverse (omega arith)
+  few_from (suc fuel) us pos (found u os later) p q f =
+      few_from fuel (u ∷ us) later (step l s os later) (simp suc-mul (omega arith)) f.1 (step_further later os)
 
   pub few : (root : Bool) (state : ℕ) → length (list_by l s (judge_of l root state s)).units * prefix_of l ≤ length s
   unfolding steps
   few root state =
       rw (← follows l s root state)
-      (few-from (suc (length s)) [] 0 (entered 0 (λ state. []) (judge_of l root state s)) (omega arith) (omega arith)
-      (unit-further 0 root state s (λ state. []) (omega arith)))
+      (few_from (suc (length s)) [] 0 (entered 0 (λ state. []) (judge_of l root state s)) (omega arith) (omega arith)
+      (unit_further 0 root state s (λ state. []) (omega arith)))

@@ -13,7 +13,7 @@ use Rattle.cdf_unit_list.specs.Ranks.{rank_in, ranked}
 use Rattle.cdf_unit_list.specs.Stack.{Step, done, refused, found, entered, step}
 use Rattle.cdf_unit_list.specs.Steps.{steps_from, steps}
 use Rattle.cdf_unit_list.specs.declared.Unit.{Unit}
-use Rattle.cdf_unit_list.proofs.Few.{Further, unit-further, step-further}
+use Rattle.cdf_unit_list.proofs.Few.{Further, unit_further, step_further}
 use Rattle.cdf_unit_list.proofs.Depth.{Each, earlier}
 use Rattle.cdf_unit_list.proofs.Agreement.{follows}
 
@@ -47,32 +47,32 @@ module _ (l : Layout) where
   abbrev Behind : List Unit → Unit → Type 0
   Behind us v = length us * prefix_of l ≤ v.start
 
-  ranks-low : (vs us : List Unit) → Each Behind (reverse_aux vs us) → (k : ℕ) →
+  ranks_low : (vs us : List Unit) → Each Behind (reverse_aux vs us) → (k : ℕ) →
       get_or (map (λ r. r.rank) (ranked us vs)) k 0 * prefix_of l ≤ get_or (map (λ r. r.unit.start) (ranked us vs)) k 0
   unfolding ranked
-  ranks-low [] us h k = omega arith
-  ranks-low (v ∷ vs) us h zero =
+  ranks_low [] us h k = omega arith
+  ranks_low (v ∷ vs) us h zero =
       let w = earlier Behind vs (v ∷ us) h in
       let m = mul-le-mul_right (prefix_of l) (rank_few us (open_at v.start us)) in
       omega arith
-  ranks-low (v ∷ vs) us h (suc k) = ranks-low vs (v ∷ us) h k
+  ranks_low (v ∷ vs) us h (suc k) = ranks_low vs (v ∷ us) h k
 
-  behind-from : (s : List ℕ) (fuel : ℕ) (us : List Unit) (pos : ℕ) (x : Step) → length us * prefix_of l ≤ pos → Each Behind us → Further l s pos x →
+  behind_from : (s : List ℕ) (fuel : ℕ) (us : List Unit) (pos : ℕ) (x : Step) → length us * prefix_of l ≤ pos → Each Behind us → Further l s pos x →
       Each Behind (reverse (steps_from fuel l s x us).units)
   unfolding steps_from
-  behind-from s zero us pos x p h f = rw reverse-reverse h
-  behind-from s (suc fuel) us pos done p h f = rw reverse-reverse h
-  behind-from s (suc fuel) us pos (refused n at) p h f = rw reverse-reverse h
-  behind-from s (suc fuel) us pos (found u os later) p h f =
-      behind-from s fuel (u ∷ us) later (step l s os later) (simp suc-mul (omega arith)) (omega arith, h) (step-further l s later os)
+  behind_from s zero us pos x p h f = rw reverse-reverse h
+  behind_from s (suc fuel) us pos done p h f = rw reverse-reverse h
+  behind_from s (suc fuel) us pos (refused n at) p h f = rw reverse-reverse h
+  behind_from s (suc fuel) us pos (found u os later) p h f =
+      behind_from s fuel (u ∷ us) later (step l s os later) (simp suc-mul (omega arith)) (omega arith, h) (step_further l s later os)
 
   pub low : (s : List ℕ) (root : Bool) (state k : ℕ) →
       let rs = ranked [] (list_by l s (judge_of l root state s)).units in
       get_or (map (λ r. r.rank) rs) k 0 * prefix_of l ≤ get_or (map (λ r. r.unit.start) rs) k 0
   unfolding steps
   low s root state k =
-      ranks-low (list_by l s (judge_of l root state s)).units []
+      ranks_low (list_by l s (judge_of l root state s)).units []
       (rw (← follows l s root state)
-      (behind-from s (suc (length s)) [] 0 (entered 0 (λ state. []) (judge_of l root state s)) (omega arith) (record {})
-      (unit-further l s 0 root state s (λ state. []) (omega arith))))
+      (behind_from s (suc (length s)) [] 0 (entered 0 (λ state. []) (judge_of l root state s)) (omega arith) (record {})
+      (unit_further l s 0 root state s (λ state. []) (omega arith))))
       k

@@ -13,7 +13,7 @@ use Rattle.cdf_unit_judge.proofs.Faults.{told}
 use Rattle.cdf_unit_list.specs.Units.{after, fault, list_by, listing}
 use Rattle.cdf_unit_list.specs.Claims.{Pointed}
 use Rattle.cdf_unit_list.specs.declared.Unit.{Unit}
-use Rattle.cdf_unit_list.proofs.Ending.{at-fault}
+use Rattle.cdf_unit_list.proofs.Ending.{at_fault}
 
 abbrev Numbered : ℕ → Type 0
 Numbered n = (3 ≤ n) × (n ≤ 10)
@@ -21,7 +21,7 @@ Numbered n = (3 ≤ n) × (n ≤ 10)
 pub numbered : (l : Layout) (s : List ℕ) (root : Bool) (state : ℕ) {n at : ℕ} →
     (list_by l s (judge_of l root state s)).end ≡ fault n at → Numbered n
 numbered l s root state e =
-    at-fault l s (judge_of l root state s) (λ us n at. Numbered n)
+    at_fault l s (judge_of l root state s) (λ us n at. Numbered n)
     (λ n k e. let t = told l root s state e in omega (arith, t.low, t.high))
     (λ us u. omega arith)
     (λ u us state m n k e. let t = told l false (take m (drop (after u) s)) state e in omega (arith, t.low, t.high))
@@ -40,7 +40,7 @@ length_front l m t h = number_front l.length_bytes 2 m t (omega arith)
 pub pointed : (l : Layout) (s : List ℕ) {at : ℕ} → (listing l s).end ≡ fault 9 at → Pointed l s (reverse (listing l s).units) at
 unfolding listing
 pointed l s e =
-    at-fault l s (judge_of l true 0 s) (λ us n at. n ≡ 9 → Pointed l s us at)
+    at_fault l s (judge_of l true 0 s) (λ us n at. n ≡ 9 → Pointed l s us at)
     (λ n k e nine. absurd (false≢true (sym ((told l true s 0 e).nested nine))))
     (λ us u nine. absurd (omega arith))
     (λ u us state m n k e nine. go u state m k (rw nine at e)) e refl

@@ -22,7 +22,7 @@ use Rattle.cdf_unit_list.specs.Stack.{step_in, step, step_by, step_in_by}
 use Rattle.cdf_unit_list.specs.declared.Unit.{Unit}
 use Rattle.cdf_unit_list.specs.declared.Open.{Open}
 use Rattle.cdf_unit_list.proofs.Nested.{Nested, narrow}
-use Rattle.cdf_unit_list.proofs.StatesListed.{open_of, Before, new_inside, inner-inside, outer-inside}
+use Rattle.cdf_unit_list.proofs.StatesListed.{open_of, Before, new_inside, inner_inside, outer_inside}
 use Rattle.cdf_unit_list.proofs.Closing.{Closes, stops, leaves, closes}
 use Rattle.cdf_unit_list.proofs.Entering.{Follow, unit_from}
 
@@ -79,20 +79,20 @@ counts_opened us ks r v around before rank few leaf counted = go (opens v.id) re
 
 module _ (v : Unit) (us : List Unit) (o : Unit) (ws : List Unit) (e : open_at v.start us ≡ o ∷ ws) where
   -- Those around the innermost unit have as many as before, whatever states (of the units `all`) they are told with,
-  outer-counted : (all xs : List Unit) (end : ℕ) → Nested o.start end xs → (ks : List ℕ) (r : ℕ) → Counted us (map (open_of all) xs) ks r →
+  outer_counted : (all xs : List Unit) (end : ℕ) → Nested o.start end xs → (ks : List ℕ) (r : ℕ) → Counted us (map (open_of all) xs) ks r →
       Counted (v ∷ us) (map (open_of all) xs) ks r
-  outer-counted all [] end h ks r c = c
-  outer-counted all (w ∷ xs) end h [] r c = c
-  outer-counted all (w ∷ xs) end h (k ∷ ks) r c =
+  outer_counted all [] end h ks r c = c
+  outer_counted all (w ∷ xs) end h [] r c = c
+  outer_counted all (w ∷ xs) end h (k ∷ ks) r c =
       let rest = narrow xs w.start w.end o.start w.end (omega arith) (omega arith) h.2 in
-      (rw (outer-inside v us o ws e w h.0) c.0, outer-counted all xs w.end rest ks (suc k) c.1)
+      (rw (outer_inside v us o ws e w h.0) c.0, outer_counted all xs w.end rest ks (suc k) c.1)
 
   -- and the innermost one more.
-  pub inner-counted : (all : List Unit) (end : ℕ) → Nested o.start end ws → (ks : List ℕ) (r : ℕ) → Counted us (map (open_of all) (o ∷ ws)) ks r →
+  pub inner_counted : (all : List Unit) (end : ℕ) → Nested o.start end ws → (ks : List ℕ) (r : ℕ) → Counted us (map (open_of all) (o ∷ ws)) ks r →
       Counted (v ∷ us) (map (open_of all) (o ∷ ws)) ks (suc r)
-  inner-counted all end h [] r c = c
-  inner-counted all end h (k ∷ ks) r c =
-      (rw (inner-inside v us o ws e, c.0), outer-counted all ws end h ks (suc k) c.1)
+  inner_counted all end h [] r c = c
+  inner_counted all end h (k ∷ ks) r c =
+      (rw (inner_inside v us o ws e, c.0), outer_counted all ws end h ks (suc k) c.1)
 
 -- A unit in the innermost one has the rank that is due.
 pub rank_due : (all us : List Unit) (o : Unit) (ws : List Unit) (ks : List ℕ) (r : ℕ) → Counted us (map (open_of all) (o ∷ ws)) ks r →
@@ -103,11 +103,11 @@ rank_due all us o ws (k ∷ ks) r c = c.0
 
 module _ (l : Layout) (s : List ℕ) where
   -- A unit in the innermost of those that closing leaves.
-  pub within-counts : (us : List Unit) (pos : ℕ) → Before pos us → (ws : List Unit) → open_at pos us ≡ ws → Nested pos (suc pos) ws →
+  pub within_counts : (us : List Unit) (pos : ℕ) → Before pos us → (ws : List Unit) → open_at pos us ≡ ws → Nested pos (suc pos) ws →
       (ks : List ℕ) (r : ℕ) → Counted us (map (open_of us) ws) ks r → CountsOn us ks r (step_in l s pos (left (map (open_of us) ws)))
   unfolding step_in_by with_state entered
-  within-counts us pos before [] e h ks r c = record {}
-  within-counts us pos before (o ∷ ws) e h ks r c = go (judge_of l false (state_of us o) (take (o.end - pos) (drop pos s)))
+  within_counts us pos before [] e h ks r c = record {}
+  within_counts us pos before (o ∷ ws) e h ks r c = go (judge_of l false (state_of us o) (take (o.end - pos) (drop pos s)))
     where
       go : (j : Judged) → CountsOn us ks r (entered pos (λ state. with_state (open_of us o) state ∷ map (open_of us) ws) j)
       go (Fault n k) = record {}
@@ -115,22 +115,22 @@ module _ (l : Layout) (s : List ℕ) where
           let v = unit_from pos id action own len in
           counts_opened us ks r v (with_state (open_of us o) state ∷ map (open_of us) ws) before
           (rw e (rank_due us us o ws ks r c)) (rw (e, length-map ws (open_of us)))
-          (λ x. ne_eqb o.start pos (λ q. omega arith)) (inner-counted v us o ws e us o.end h.2 ks r c)
+          (λ x. ne_eqb o.start pos (λ q. omega arith)) (inner_counted v us o ws e us o.end h.2 ks r c)
 
   -- A step from units that follow the list, if those that closing leaves have these ranks.
-  pub next-counts : (us : List Unit) (os : List Open) (pos : ℕ) → Follow us os pos → (ks : List ℕ) (r : ℕ) →
+  pub next_counts : (us : List Unit) (os : List Open) (pos : ℕ) → Follow us os pos → (ks : List ℕ) (r : ℕ) →
       CountedLeft us ks r (close os pos) → CountsOn us ks r (step l s os pos)
   unfolding step_by step_in_by
-  next-counts us os pos f ks r c = rw f.stack (go (closes us pos us f.nested) (rw f.stack at c))
+  next_counts us os pos f ks r c = rw f.stack (go (closes us pos us f.nested) (rw f.stack at c))
     where
       go : {n : Next} {x : Closing} → Closes us pos (open_at pos us) n x → CountedLeft us ks r x → CountsOn us ks r (step_in l s pos x)
       go stops c = record {}
-      go (leaves h) c = within-counts us pos f.before (open_at pos us) refl h ks r c
+      go (leaves h) c = within_counts us pos f.before (open_at pos us) refl h ks r c
 
   -- The first unit is the root: it has rank 0, and admits others.
-  pub first-counts : CountsOn [] [] 0 (entered 0 (λ state. []) (judge_of l true 0 s))
+  pub first_counts : CountsOn [] [] 0 (entered 0 (λ state. []) (judge_of l true 0 s))
   unfolding entered open_at parents_that rank_in
-  first-counts = go (judge_of l true 0 s) refl
+  first_counts = go (judge_of l true 0 s) refl
     where
       go : (j : Judged) → judge_of l true 0 s ≡ j → CountsOn [] [] 0 (entered 0 (λ state. []) j)
       go (Fault n k) e = record {}

@@ -51,25 +51,25 @@ new_state v us b = rw (new_inside v us b)
 
 module _ (v : Unit) (us : List Unit) (o : Unit) (os : List Unit) (opened : open_at v.start us ≡ o ∷ os) where
   -- The innermost open unit has had the new one too,
-  pub inner-inside : inside o.start (v ∷ us) ≡ v.id ∷ inside o.start us
+  pub inner_inside : inside o.start (v ∷ us) ≡ v.id ∷ inside o.start us
   unfolding inside first_starts
-  inner-inside = rw (opened, eq-eqb o.start o.start refl)
+  inner_inside = rw (opened, eq-eqb o.start o.start refl)
 
-  pub inner-state : state_of (v ∷ us) o ≡ admit (state_of us o) v.id
+  pub inner_state : state_of (v ∷ us) o ≡ admit (state_of us o) v.id
   unfolding state_of state_from
-  inner-state = rw inner-inside
+  inner_state = rw inner_inside
 
   -- and those around it what they had before.
-  pub outer-inside : (w : Unit) → w.start < o.start → inside w.start (v ∷ us) ≡ inside w.start us
+  pub outer_inside : (w : Unit) → w.start < o.start → inside w.start (v ∷ us) ≡ inside w.start us
   unfolding inside first_starts
-  outer-inside w h = rw (opened, ne_eqb o.start w.start (λ e. omega arith))
+  outer_inside w h = rw (opened, ne_eqb o.start w.start (λ e. omega arith))
 
-  outer-state : (w : Unit) → w.start < o.start → state_of (v ∷ us) w ≡ state_of us w
+  outer_state : (w : Unit) → w.start < o.start → state_of (v ∷ us) w ≡ state_of us w
   unfolding state_of
-  outer-state w h = rw (outer-inside w h)
+  outer_state w h = rw (outer_inside w h)
 
-  pub outer-open : (ws : List Unit) (end : ℕ) → Nested o.start end ws → map (open_of (v ∷ us)) ws ≡ map (open_of us) ws
-  outer-open [] end h = refl
-  outer-open (w ∷ ws) end h =
+  pub outer_open : (ws : List Unit) (end : ℕ) → Nested o.start end ws → map (open_of (v ∷ us)) ws ≡ map (open_of us) ws
+  outer_open [] end h = refl
+  outer_open (w ∷ ws) end h =
       let rest = narrow ws w.start w.end o.start w.end (omega arith) (omega arith) h.2 in
-      rw (outer-state w h.0, outer-open ws w.end rest)
+      rw (outer_state w h.0, outer_open ws w.end rest)

@@ -25,16 +25,16 @@ abbrev pub fresh : Unit → Open
 fresh u = record { state = nothing u.id; start = u.start; end = u.end }
 
 module _ (l : Layout) (s : List ℕ) where
-  pub step-inside : (o : Open) (os : List Open) (pos : ℕ) → pos < o.end →
+  pub step_inside : (o : Open) (os : List Open) (pos : ℕ) → pos < o.end →
       step l s (o ∷ os) pos
       ≡ entered pos (λ state. with_state o state ∷ os) (judge_of l false o.state (take (o.end - pos) (drop pos s)))
   unfolding step_by step_in_by close
-  step-inside o os pos h = rw (ne_eqb o.end pos (λ e. omega arith))
+  step_inside o os pos h = rw (ne_eqb o.end pos (λ e. omega arith))
 
-  pub step-closes : (o : Open) (os : List Open) (pos : ℕ) → o.end ≡ pos →
+  pub step_closes : (o : Open) (os : List Open) (pos : ℕ) → o.end ≡ pos →
       step l s (o ∷ os) pos ≡ cond (complete o.state) (step l s os pos) (refused 10 o.start)
   unfolding step_by step_in_by close
-  step-closes o os pos e = rw (eq-eqb o.end pos e) (go (complete o.state))
+  step_closes o os pos e = rw (eq-eqb o.end pos e) (go (complete o.state))
     where
       go : (b : Bool) →
           step_in l s pos (cond b (close os pos) (incomplete o.start))
@@ -42,9 +42,9 @@ module _ (l : Layout) (s : List ℕ) where
       go true = refl
       go false = refl
 
-  pub steps-end : (f pos : ℕ) (us : List Unit) → steps_from (suc f) l s (step l s [] pos) us ≡ record { units = reverse us; end = ended }
+  pub steps_end : (f pos : ℕ) (us : List Unit) → steps_from (suc f) l s (step l s [] pos) us ≡ record { units = reverse us; end = ended }
   unfolding steps_from
-  steps-end f pos us = refl
+  steps_end f pos us = refl
 
   pub steps_on : (f : ℕ) (u : Unit) (os : List Open) (pos : ℕ) (us : List Unit) →
       steps_from (suc f) l s (found u os pos) us ≡ steps_from f l s (step l s os pos) (u ∷ us)
@@ -52,18 +52,18 @@ module _ (l : Layout) (s : List ℕ) where
   steps_on f u os pos us = refl
 
   -- Steps that are refused, or out of fuel, do not come to the end.
-  pub refused-never : (f n at : ℕ) (us : List Unit) → (steps_from f l s (refused n at) us).end ≡ ended → ⊥
+  pub refused_never : (f n at : ℕ) (us : List Unit) → (steps_from f l s (refused n at) us).end ≡ ended → ⊥
   unfolding steps_from
-  refused-never zero n at us q = clash cc
-  refused-never (suc f) n at us q = clash cc
+  refused_never zero n at us q = clash cc
+  refused_never (suc f) n at us q = clash cc
 
-  pub spent-never : (x : Step) (us : List Unit) → (steps_from 0 l s x us).end ≡ ended → ⊥
+  pub spent_never : (x : Step) (us : List Unit) → (steps_from 0 l s x us).end ≡ ended → ⊥
   unfolding steps_from
-  spent-never x us q = clash cc
+  spent_never x us q = clash cc
 
-  pub listing-steps : listing l s ≡ steps_from (suc (length s)) l s (entered 0 (λ state. []) (judge_of l true 0 s)) []
+  pub listing_steps : listing l s ≡ steps_from (suc (length s)) l s (entered 0 (λ state. []) (judge_of l true 0 s)) []
   unfolding listing steps
-  listing-steps = rw (← follows l s true 0)
+  listing_steps = rw (← follows l s true 0)
 
 pub faults : (pos : ℕ) (around : ℕ → List Open) (n k : ℕ) → entered pos around (Fault n k) ≡ refused n (pos + k)
 unfolding entered
@@ -76,10 +76,10 @@ unfolding entered
 enters pos around id action own len state = refl
 
 module _ (u : Unit) (os : List Open) where
-  pub opened-parent : opens u.id ≡ true → (opened u os ≡ fresh u ∷ os) × (after u ≡ u.own)
+  pub opened_parent : opens u.id ≡ true → (opened u os ≡ fresh u ∷ os) × (after u ≡ u.own)
   unfolding opened after
-  opened-parent e = (rw e, rw e)
+  opened_parent e = (rw e, rw e)
 
-  pub opened-leaf : opens u.id ≡ false → (opened u os ≡ os) × (after u ≡ u.end)
+  pub opened_leaf : opens u.id ≡ false → (opened u os ≡ os) × (after u ≡ u.end)
   unfolding opened after
-  opened-leaf e = (rw e, rw e)
+  opened_leaf e = (rw e, rw e)

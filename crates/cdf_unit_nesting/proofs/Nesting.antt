@@ -8,7 +8,7 @@ use lib.Dec.{leb, ltb}
 use Rattle.cdf_unit_table.specs.States.{states_end, unit_of, root_kind, admits_kind, stream_new, stream_skipped, er_new, er_skipped, file_skipped}
 use Rattle.cdf_unit_table.specs.States.{call_skipped, template_new, relation_new, ordered_skipped, entity_new, entity_skipped}
 use Rattle.cdf_unit_table.proofs.Tests.{agree}
-use Rattle.cdf_unit_table.proofs.Tables.{up_to, same-below, same}
+use Rattle.cdf_unit_table.proofs.Tables.{up_to, same_below, same}
 use Rattle.cdf_unit_table.proofs.Rows.{no_unit, admits_none, none_admits}
 
 root_past : (s : ℕ) → states_end ≤ s → (leb stream_new s && leb s file_skipped) ≡ root_kind (unit_of s)
@@ -59,7 +59,7 @@ nests_is p c = go (ltb p states_end) refl
     go : (b : Bool) → ltb p states_end ≡ b → nests_by p c ≡ admits_kind (unit_of p) (unit_of c)
     go true e =
         same (nests_by p) (λ c. admits_kind (unit_of p) (unit_of c)) states_end
-        (same-below (λ p. up_to (nests_by p) states_end) (λ p. up_to (λ c. admits_kind (unit_of p) (unit_of c)) states_end) states_end refl p
+        (same_below (λ p. up_to (nests_by p) states_end) (λ p. up_to (λ c. admits_kind (unit_of p) (unit_of c)) states_end) states_end refl p
         (ltb-true p states_end e))
         (inner_past p) c
     go false e = outer_past p c (ltb-false p states_end e)

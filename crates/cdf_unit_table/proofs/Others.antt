@@ -55,14 +55,14 @@ is_blank (numbers n) = false
 pub blank_else : (kss : List (List ℕ)) → T (below (λ k. member_of kss k || is_blank (kind_of k).rule) ids_end) → (id : ℕ) → Rest kss id →
     (kind_of id).rule ≡ blank
 unfolding unknown_kind
-blank_else kss t id rest = is-blank (kind_of id).rule (else_at (λ k. is_blank (kind_of k).rule) kss ids_end t past id rest)
+blank_else kss t id rest = is_blank_lem (kind_of id).rule (else_at (λ k. is_blank (kind_of k).rule) kss ids_end t past id rest)
   where
-    is-blank : (r : Rule) → T (is_blank r) → r ≡ blank
-    is-blank blank t = refl
-    is-blank name t = absurd t
-    is-blank name_value t = absurd t
-    is-blank value t = absurd t
-    is-blank (numbers n) t = absurd t
+    is_blank_lem : (r : Rule) → T (is_blank r) → r ≡ blank
+    is_blank_lem blank t = refl
+    is_blank_lem name t = absurd t
+    is_blank_lem name_value t = absurd t
+    is_blank_lem value t = absurd t
+    is_blank_lem (numbers n) t = absurd t
 
     past : (k : ℕ) → ids_end ≤ k → T (is_blank (kind_of k).rule)
     past k h = rw (beyond k h) tt

@@ -14,9 +14,9 @@ module _ {A : Type 0} where
   up_to f zero = []
   up_to f (suc n) = f n ∷ up_to f n
 
-  pub same-below : (f g : ℕ → A) (n : ℕ) → up_to f n ≡ up_to g n → (k : ℕ) → k < n → f k ≡ g k
-  same-below f g zero e k h = absurd (not-suc-le-zero h)
-  same-below f g (suc n) e k h = go (eqb k n) refl (same-below f g n (cc) k)
+  pub same_below : (f g : ℕ → A) (n : ℕ) → up_to f n ≡ up_to g n → (k : ℕ) → k < n → f k ≡ g k
+  same_below f g zero e k h = absurd (not-suc-le-zero h)
+  same_below f g (suc n) e k h = go (eqb k n) refl (same_below f g n (cc) k)
     where
       go : (b : Bool) → eqb k n ≡ b → (k < n → f k ≡ g k) → f k ≡ g k
       go true q less = let last : f n ≡ g n = cc in rw (eqb-true k n q) last
@@ -26,5 +26,5 @@ module _ {A : Type 0} where
   same f g n e beyond k = go (ltb k n) refl
     where
       go : (b : Bool) → ltb k n ≡ b → f k ≡ g k
-      go true q = same-below f g n e k (ltb-true k n q)
+      go true q = same_below f g n e k (ltb-true k n q)
       go false q = beyond k (ltb-false k n q)

@@ -15,8 +15,8 @@ use Rattle.cdf_unit_prefix.specs.declared.Edition.TheVariants.{First}
 use Rattle.cdf_builder_spec.specs.Slots.{placed}
 use Rattle.cdf_batch_spec.specs.declared.UnitRequest.{UnitRequest}
 use Rattle.cdf_batch_turn.specs.Passes.{or_else, going, fault_of}
-use Rattle.cdf_batch_turn.proofs.Steady.{neither, faultless, number-unknown, number-some, number-none}
-use Rattle.cdf_batch_turn.proofs.Turning.{turn-still, refused, crowding, built}
+use Rattle.cdf_batch_turn.proofs.Steady.{neither, faultless, number_unknown, number_some, number_none}
+use Rattle.cdf_batch_turn.proofs.Turning.{turn_still, refused, crowding, built}
 use Rattle.cdf_batch_turn.proofs.turn.Goals as goal
 
 -- Past the number: it joins, its bounds are good and what is written is within the limit, and only the slots may be wanting.
@@ -37,14 +37,14 @@ entered writing n written text r j m e z =
 pub returns-then-ran-ne0 : goal.returns-then-ran-ne0
 returns-then-ran-ne0 c =
     let a = c.args in
-    sym (turn-still (layout_of First) a.text.now (going a.ran a.buffer.now) a.rank a.r c.if-ran-ne0.true)
+    sym (turn_still (layout_of First) a.text.now (going a.ran a.buffer.now) a.rank a.r c.if-ran-ne0.true)
 
 pub returns-then-not-is_known : goal.returns-then-not-is_known
 returns-then-not-is_known c =
     let a = c.args in
     let out : c.is_known.result ≡ false = search rules in
     refused a.text.now a.buffer.now a.ran a.rank a.r c.if-ran-ne0.false _ c.parts_from-p.ensures 6
-    (number-unknown (layout_of First) a.ran.writing (length a.buffer.now) a.text.now (placed c.parts_from-p.result) a.r (sym c.is_known.ensures ∙ out))
+    (number_unknown (layout_of First) a.ran.writing (length a.buffer.now) a.text.now (placed c.parts_from-p.result) a.r (sym c.is_known.ensures ∙ out))
     (λ z. omega arith)
 
 pub returns-then-number-ne0 : goal.returns-then-number-ne0
@@ -52,7 +52,7 @@ returns-then-number-ne0 c =
     let a = c.args in
     let known : c.is_known.result ≡ true = search rules in
     refused a.text.now a.buffer.now a.ran a.rank a.r c.if-ran-ne0.false _ c.parts_from-p.ensures _
-    (number-some (layout_of First) a.ran.writing (length a.buffer.now) a.text.now (placed c.parts_from-p.result) a.r (sym c.is_known.ensures ∙ known)
+    (number_some (layout_of First) a.ran.writing (length a.buffer.now) a.text.now (placed c.parts_from-p.result) a.r (sym c.is_known.ensures ∙ known)
     c.join-left.result.number c.join-left.ensures.number c.fault-number.result c.fault-number.ensures c.if-number-ne0.true)
     c.if-number-ne0.true
 
@@ -62,7 +62,7 @@ returns-then-is_crowded c =
     let known : c.is_known.result ≡ true = search rules in
     crowding a.text.now a.buffer.now a.ran a.rank a.r c.if-ran-ne0.false _ c.parts_from-p.ensures
     c.join-left.result.count c.join-left.result.top c.join-left.ensures.left _ c.first_state-first.ensures
-    (number-none (layout_of First) a.ran.writing (length a.buffer.now) a.text.now (placed c.parts_from-p.result) a.r (sym c.is_known.ensures ∙ known)
+    (number_none (layout_of First) a.ran.writing (length a.buffer.now) a.text.now (placed c.parts_from-p.result) a.r (sym c.is_known.ensures ∙ known)
     c.join-left.result.number c.join-left.ensures.number c.fault-number.result c.fault-number.ensures c.if-number-ne0.false)
     (sym c.is_crowded.ensures ∙ c.if-is_crowded.true)
 
@@ -111,6 +111,6 @@ returns c =
     c.join-left.result.count c.join-left.result.top c.join-left.ensures.left _ c.first_state-first.ensures
     (sym c.join-left.ensures.number ∙ w.joins) (sym c.is_crowded.ensures ∙ c.if-is_crowded.false) _
     (rw c.prefix.ensures.is) _ c.enter-after.ensures
-    (number-none (layout_of First) a.ran.writing (length a.buffer.now) a.text.now (placed c.parts_from-p.result) a.r (sym c.is_known.ensures ∙ known)
+    (number_none (layout_of First) a.ran.writing (length a.buffer.now) a.text.now (placed c.parts_from-p.result) a.r (sym c.is_known.ensures ∙ known)
     c.join-left.result.number c.join-left.ensures.number c.fault-number.result c.fault-number.ensures c.if-number-ne0.false)
     _ c.numbers_from-place.ensures _ c.write.ensures

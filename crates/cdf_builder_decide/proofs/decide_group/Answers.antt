@@ -10,7 +10,7 @@ use Rattle.cdf_unit_prefix.specs.Layout.{layout_of}
 use Rattle.cdf_builder_spec.specs.Place.{fits}
 use Rattle.cdf_builder_spec.specs.Requests.{group}
 use Rattle.cdf_builder_spec.specs.Slots.{placed}
-use Rattle.cdf_builder_decide.proofs.Stages.{declined, unfit, no-group, group-not-joined, Grows, grows, group_grows, sum_fits}
+use Rattle.cdf_builder_decide.proofs.Stages.{declined, unfit, no_group, group_not_joined, Grows, grows, group_grows, sum_fits}
 use Rattle.cdf_builder_decide.proofs.Few.{growable}
 use Rattle.cdf_builder_decide.proofs.decide_group.Goals as goal
 use Rattle.cdf_builder_decide.proofs.decide_group.Goals.{Else-not-is_fit, Else-left-ne0}
@@ -39,14 +39,14 @@ returns-then-not-is_fit c =
 pub returns-then-id-eq0 : goal.returns-then-id-eq0
 returns-then-id-eq0 c =
     let fits = fit (goal.at.returns-then-id-eq0 c).Else-not-is_fit in
-    record { is = sym (declined _ _ _ _ 14 (λ e. omega arith) (no-group _ _ _ _ fits (sym c.group_id-id.ensures ∙ c.if-id-eq0.true))); kept = λ some. refl }
+    record { is = sym (declined _ _ _ _ 14 (λ e. omega arith) (no_group _ _ _ _ fits (sym c.group_id-id.ensures ∙ c.if-id-eq0.true))); kept = λ some. refl }
 
 pub returns-then-left-ne0 : goal.returns-then-left-ne0
 returns-then-left-ne0 c =
     let fits = fit (goal.at.returns-then-left-ne0 c).Else-not-is_fit in
     record {
       is = sym (declined _ _ _ _ _ c.if-left-ne0.true
-          (group-not-joined _ _ _ _ fits _ c.group_id-id.ensures c.if-id-eq0.false _ c.join_place-left.ensures.number c.if-left-ne0.true));
+          (group_not_joined _ _ _ _ fits _ c.group_id-id.ensures c.if-id-eq0.false _ c.join_place-left.ensures.number c.if-left-ne0.true));
       kept = λ some. refl;
     }
 

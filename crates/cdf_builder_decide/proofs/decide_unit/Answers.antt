@@ -11,7 +11,7 @@ use Rattle.cdf_unit_prefix.specs.Layout.{layout_of}
 use Rattle.cdf_builder_spec.specs.Place.{fits}
 use Rattle.cdf_builder_spec.specs.Requests.{unit}
 use Rattle.cdf_builder_spec.specs.Slots.{placed}
-use Rattle.cdf_builder_decide.proofs.Stages.{declined, unfit, unknown, not-joined, wrong, Grows, grows, unit_grows, sum_fits}
+use Rattle.cdf_builder_decide.proofs.Stages.{declined, unfit, unknown, not_joined, wrong, Grows, grows, unit_grows, sum_fits}
 use Rattle.cdf_builder_decide.proofs.Few.{growable}
 use Rattle.cdf_builder_decide.proofs.decide_unit.Goals as goal
 use Rattle.cdf_builder_decide.proofs.decide_unit.Goals.{After-first_state-first}
@@ -52,7 +52,7 @@ returns-then-left-ne0 c =
     let is = sym c.is_known.ensures ∙ not-false c.is_known.result c.if-not-is_known.false-raw in
     record {
       is = sym (declined _ _ _ _ _ c.if-left-ne0.true
-          (not-joined _ _ _ _ fit is _ c.join_place-left.ensures.number c.if-left-ne0.true));
+          (not_joined _ _ _ _ fit is _ c.join_place-left.ensures.number c.if-left-ne0.true));
       kept = λ some. refl;
     }
 

@@ -5,7 +5,7 @@ use borrow.Author.Tests.{ne_eqb}
 use Rattle.cdf_builder_spec.specs.Place.{BuilderPlace}
 use Rattle.cdf_builder_spec.specs.Calls.{Decision}
 use Rattle.cdf_builder_spec.specs.Slots.{placed}
-use Rattle.cdf_builder_enter.proofs.Entered.{entered-is}
+use Rattle.cdf_builder_enter.proofs.Entered.{entered_is}
 use Rattle.cdf_builder_decide.proofs.grow.Goals as goal
 
 abbrev done : BuilderPlace → Decision
@@ -20,5 +20,5 @@ pub returns : goal.returns
 returns c =
     let none = sym c.room-number.ensures ∙ c.if-number-ne0.false in
     let a = c.args in
-    let grew = entered-is a.p a.left.count a.left.top _ a.first (c.requires.slot none) in
+    let grew = entered_is a.p a.left.count a.left.top _ a.first (c.requires.slot none) in
     record { is = rw none (ap done (ap placed c.enter-place.ensures ∙ grew)); kept = λ some. absurd (some refl) }

@@ -5,7 +5,7 @@ use borrow.Author.Rules.{rules}
 use borrow.Author.Tests.{not-true, not-false}
 use Rattle.cdf_builder_spec.specs.Requests.{completed}
 use Rattle.cdf_builder_spec.specs.Slots.{units}
-use Rattle.cdf_builder_join.proofs.Joins.{completed-on, completed-not, completed_none}
+use Rattle.cdf_builder_join.proofs.Joins.{completed_on, completed_not, completed_none}
 use Rattle.cdf_builder_join.proofs.is_completed.Given as goal
 
 abbrev pub invariant-loop-left : goal.invariant-loop-left

@@ -10,7 +10,7 @@ use Rattle.cdf_unit_prefix.specs.Layout.{layout_of}
 use Rattle.cdf_unit_table.proofs.Parts.{rest}
 use Rattle.cdf_grammar.specs.Encoding.{bytes_of}
 use Rattle.cdf_builder_copy.proofs.Lent.{lent}
-use Rattle.cdf_builder_write.proofs.Lent.{prefix-stored}
+use Rattle.cdf_builder_write.proofs.Lent.{prefix_stored}
 use Rattle.cdf_builder_write.proofs.put_prefix.Goals as goal
 
 -- with the mark
@@ -70,4 +70,4 @@ returns c =
       c.length_bytes-width.ensures.is,
       c.second_mark-mark.ensures,
     )
-    (prefix-stored (layout_of a.edition) a.len a.action a.id a.tail.now c.requires)
+    (prefix_stored (layout_of a.edition) a.len a.action a.id a.tail.now c.requires)

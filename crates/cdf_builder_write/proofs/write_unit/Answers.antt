@@ -9,7 +9,7 @@ use lib.ListN.{length, length-drop}
 use Rattle.cdf_unit_prefix.specs.Layout.{layout_of, prefix_of}
 use Rattle.cdf_unit_table.proofs.Parts.{rest}
 use Rattle.cdf_grammar.specs.Encoding.{unit_bytes}
-use Rattle.cdf_builder_write.proofs.Lent.{wrote, stayed, length-alone}
+use Rattle.cdf_builder_write.proofs.Lent.{wrote, stayed, length_alone}
 use Rattle.cdf_builder_write.proofs.write_unit.Goals as goal
 use Rattle.cdf_builder_write.proofs.write_unit.Goals.{Then-has_room}
 
@@ -32,7 +32,7 @@ returns-then-has_room c =
     let a = c.args in
     let l = layout_of a.edition in
     let text = a.«data».now in
-    wrote a.at (prefix_of l + length text) (unit_bytes l a.id a.action text []) a.buffer.now (length-alone l a.id a.action text) _
+    wrote a.at (prefix_of l + length text) (unit_bytes l a.id a.action text []) a.buffer.now (length_alone l a.id a.action text) _
     (rw c.prefix.ensures.is at c.has_room.ensures) c.if-has_room.true c.put_unit.new.tail c.put_unit.ensures
 
 pub returns-else-has_room : goal.returns-else-has_room
@@ -40,5 +40,5 @@ returns-else-has_room c =
     let a = c.args in
     let l = layout_of a.edition in
     let text = a.«data».now in
-    stayed a.at (prefix_of l + length text) (unit_bytes l a.id a.action text []) a.buffer.now (length-alone l a.id a.action text) _
+    stayed a.at (prefix_of l + length text) (unit_bytes l a.id a.action text []) a.buffer.now (length_alone l a.id a.action text) _
     (rw c.prefix.ensures.is at c.has_room.ensures) c.if-has_room.false

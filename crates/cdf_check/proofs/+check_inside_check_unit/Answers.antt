@@ -12,8 +12,8 @@ use Rattle.cdf_unit_table.proofs.Heights.{opens_lower}
 use Rattle.cdf_unit_table.proofs.Parts.{rest}
 use Rattle.cdf_unit_table.proofs.Rows.{opens_by}
 use Rattle.cdf_unit_judge.proofs.Placed.{body_fits, fault_fits}
-use Rattle.cdf_check.proofs.Walked.{begun, finished, stopped, not-here, Lies, lies, stopped-inside, on}
-use Rattle.cdf_check.proofs.Walked.{no-action, no-data, leaf, holds}
+use Rattle.cdf_check.proofs.Walked.{begun, finished, stopped, not_here, Lies, lies, stopped_inside, on}
+use Rattle.cdf_check.proofs.Walked.{no_action, no_data, leaf, holds}
 use Rattle.cdf_check.proofs.+check_inside_check_unit.Goals as goal
 use Rattle.cdf_check.proofs.+check_inside_check_unit.Goals.{check_inside-Else-state-eq0, check_unit-After-judge_body_by}
 
@@ -28,7 +28,7 @@ check_inside-returns-in-Stop t c =
 pub check_inside-returns-then-state-eq0 : goal.check_inside-returns-then-state-eq0
 check_inside-returns-then-state-eq0 t c =
     let a =
-    not-here c.loop-at.invariant c.loop-at-test.true _ (simp rest at c.head.ensures) c.in-Prefix.is _
+    not_here c.loop-at.invariant c.loop-at-test.true _ (simp rest at c.head.ensures) c.in-Prefix.is _
     c.state_after-state.ensures c.if-state-eq0.true in
     record { is = a.0; few = a.1 }
 
@@ -53,7 +53,7 @@ check_inside-check_unit-requires t c =
 pub check_inside-returns-in-Refused : goal.check_inside-returns-in-Refused
 check_inside-returns-in-Refused t c =
     let a =
-    stopped-inside c.loop-at.invariant c.loop-at-test.true _ (simp rest at c.head.ensures) c.in-Prefix.is _
+    stopped_inside c.loop-at.invariant c.loop-at-test.true _ (simp rest at c.head.ensures) c.in-Prefix.is _
     c.state_after-state.ensures c.if-state-eq0.false c.check_unit.ensures.is c.in-Refused.is in
     record { is = a.0; few = a.1 }
 
@@ -116,13 +116,13 @@ check_unit-check_inside-requires t c =
 pub check_unit-returns-in-Action : goal.check_unit-returns-in-Action
 check_unit-returns-in-Action t c =
     let is = bodied t (goal.at.check_unit-returns-in-Action t c).After-judge_body_by in
-    let a = no-action _ _ _ _ _ _ _ _ c.prefix-p.ensures.is _ is c.in-Action.is in
+    let a = no_action _ _ _ _ _ _ _ _ c.prefix-p.ensures.is _ is c.in-Action.is in
     record { is = a.0; few = a.1 }
 
 pub check_unit-returns-in-Data : goal.check_unit-returns-in-Data
 check_unit-returns-in-Data t c =
     let is = bodied t (goal.at.check_unit-returns-in-Data t c).After-judge_body_by in
-    let a = no-data _ _ _ _ _ _ _ _ c.prefix-p.ensures.is _ is c.in-Data.is in
+    let a = no_data _ _ _ _ _ _ _ _ c.prefix-p.ensures.is _ is c.in-Data.is in
     record { is = a.0; few = a.1 }
 
 pub check_unit-returns-else-first-eq0 : goal.check_unit-returns-else-first-eq0

@@ -7,7 +7,7 @@ use Rattle.cdf_unit_data.specs.Standing.{name_row}
 use Rattle.cdf_unit_judge.proofs.Placed.{placed}
 use Rattle.cdf_unit_table.proofs.Heights.{opens_lower, height_most}
 use Rattle.cdf_unit_table.proofs.Rows.{opens_by, leaf_by}
-use Rattle.cdf_check.proofs.Walked.{front-stopped, front-found}
+use Rattle.cdf_check.proofs.Walked.{front_stopped, front_found}
 use Rattle.cdf_check.proofs.check_front.Goals as goal
 
 pub slice_bounds-check_inside-end : goal.slice_bounds-check_inside-end
@@ -28,11 +28,11 @@ check_inside-requires c =
 pub returns-then-fresh-ne0 : goal.returns-then-fresh-ne0
 returns-then-fresh-ne0 c =
     let is = c.first_state-fresh.ensures in
-    front-found _ _ c.in-Found.is (rw (opens_by _ _ is c.if-fresh-ne0.true, ← is) c.check_inside.ensures.is)
+    front_found _ _ c.in-Found.is (rw (opens_by _ _ is c.if-fresh-ne0.true, ← is) c.check_inside.ensures.is)
 
 pub returns-in-Fault : goal.returns-in-Fault
-returns-in-Fault c = front-stopped _ _ c.in-Fault.is
+returns-in-Fault c = front_stopped _ _ c.in-Fault.is
 
 pub returns-else-fresh-ne0 : goal.returns-else-fresh-ne0
 returns-else-fresh-ne0 c =
-    front-found _ _ c.in-Found.is (rw (leaf_by _ _ c.first_state-fresh.ensures c.if-fresh-ne0.false))
+    front_found _ _ c.in-Found.is (rw (leaf_by _ _ c.first_state-fresh.ensures c.if-fresh-ne0.false))

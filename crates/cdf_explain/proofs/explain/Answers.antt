@@ -11,10 +11,10 @@ use Rattle.cdf_reader_spec.specs.Calls.{next_of}
 use Rattle.cdf_reader_cursor.specs.Outcomes.{cursor_place, outcome_reply}
 use Rattle.cdf_reader_advance.proofs.Steady.{advances_by}
 use Rattle.cdf_reader_runs.proofs.Looping.{Going, begun, Turn, turned, over}
-use Rattle.cdf_reader_runs.proofs.Further.{first-later, next-later, ahead, less}
+use Rattle.cdf_reader_runs.proofs.Further.{first_later, next_later, ahead, less}
 use Rattle.cdf_explain.specs.Numbers.{explained_by}
 use Rattle.cdf_explain.specs.Parts.{told_at}
-use Rattle.cdf_explain.proofs.Explaining.{Told, told-end, closed_few}
+use Rattle.cdf_explain.proofs.Explaining.{Told, told_end, closed_few}
 use Rattle.cdf_explain.proofs.explain.Goals as goal
 use Rattle.cdf_explain.proofs.explain.Goals.{After-loop-a, After-advance-a}
 
@@ -24,7 +24,7 @@ loop-a-init c =
     let e = c.edition_of-edition.result in
     let s = c.args.s.now in (
       ([], begun (layout_of e) s (outcome_reply c.first_as-a.result) c.first_as-a.ensures.is),
-      (λ z. ((rw (← c.first_as-a.ensures.is) at (first-later (layout_of e) s)) z).1),
+      (λ z. ((rw (← c.first_as-a.ensures.is) at (first_later (layout_of e) s)) z).1),
       refl,
     )
 
@@ -32,7 +32,7 @@ loop-a-init c =
 end_of : (c : After-loop-a) → Told (layout_of c.edition_of-edition.result) c.args.s.now (outcome_reply c.loop-a.a)
 end_of c =
     let g = c.loop-a.invariant.0 in
-    told-end _ c.args.s.now g.0 (outcome_reply c.loop-a.a) (over _ c.args.s.now g.0 (outcome_reply c.loop-a.a) g.1 c.loop-a-test.false)
+    told_end _ c.args.s.now g.0 (outcome_reply c.loop-a.a) (over _ c.args.s.now g.0 (outcome_reply c.loop-a.a) g.1 c.loop-a-test.false)
 
 -- A unit was handed out; so the place fits, and the step by 01's row is NEXT.
 here : (c : After-advance-a) → Turn (layout_of c.edition_of-edition.result) c.args.s.now c.loop-a.invariant.0.0 (outcome_reply c.loop-a.a)
@@ -47,14 +47,14 @@ loop-a-smaller c =
     let s = c.args.s.now in
     let l = layout_of c.edition_of-edition.result in
     less l s _ _ (outcome_reply c.advance-a.result) c.loop-a-test.true (c.loop-a.invariant.1 c.loop-a-test.true)
-    (rw (← next (goal.at.loop-a-smaller c).After-advance-a) at (next-later l s (cursor_place c.loop-a.a.cursor)))
+    (rw (← next (goal.at.loop-a-smaller c).After-advance-a) at (next_later l s (cursor_place c.loop-a.a.cursor)))
 
 pub loop-a-preserved : goal.loop-a-preserved
 loop-a-preserved c =
     let stepped = (goal.at.loop-a-preserved c).After-advance-a in
     let a = c.loop-a.a in (
       (a.handed.unit ∷ c.loop-a.invariant.0.0, rw (next stepped) (here stepped).next),
-      (λ z. ((rw (← next stepped) at (next-later (layout_of c.edition_of-edition.result) c.args.s.now (cursor_place a.cursor))) z).1),
+      (λ z. ((rw (← next stepped) at (next_later (layout_of c.edition_of-edition.result) c.args.s.now (cursor_place a.cursor))) z).1),
       c.loop-a.invariant.2,
     )
 

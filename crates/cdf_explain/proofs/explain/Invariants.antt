@@ -11,10 +11,10 @@ use Rattle.cdf_reader_spec.specs.Calls.{next_of}
 use Rattle.cdf_reader_cursor.specs.Outcomes.{cursor_place, outcome_reply}
 use Rattle.cdf_reader_advance.proofs.Steady.{advances_by}
 use Rattle.cdf_reader_runs.proofs.Looping.{Going, begun, Turn, turned, over}
-use Rattle.cdf_reader_runs.proofs.Further.{first-later, next-later, ahead, less}
+use Rattle.cdf_reader_runs.proofs.Further.{first_later, next_later, ahead, less}
 use Rattle.cdf_explain.specs.Numbers.{explained_by}
 use Rattle.cdf_explain.specs.Parts.{told_at}
-use Rattle.cdf_explain.proofs.Explaining.{Told, told-end, closed_few}
+use Rattle.cdf_explain.proofs.Explaining.{Told, told_end, closed_few}
 use Rattle.cdf_explain.proofs.explain.Given as goal
 
 abbrev pub invariant-loop-a : goal.invariant-loop-a

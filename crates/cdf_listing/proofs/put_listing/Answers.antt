@@ -3,13 +3,13 @@ use mathlib.Core.Path.{sym, ◌∙◌}
 use borrow.Author.Rules.{rules}
 use Rattle.cdf_unit_prefix.specs.Layout.{layout_of}
 use Rattle.cdf_unit_prefix.specs.declared.Edition.TheVariants.{First}
-use Rattle.cdf_listing.proofs.Lining.{lines-near}
+use Rattle.cdf_listing.proofs.Lining.{lines_near}
 use Rattle.cdf_listing.proofs.Answered.{accepted, turned_down}
 use Rattle.cdf_listing_lines.proofs.Putting.{put_both}
 use Rattle.cdf_listing.proofs.put_listing.Goals as goal
 
 pub overflow_cast-at : goal.overflow_cast-at
-overflow_cast-at c = let near = lines-near _ c.put_units-at.ensures in search rules
+overflow_cast-at c = let near = lines_near _ c.put_units-at.ensures in search rules
 
 pub returns-in-Accepted : goal.returns-in-Accepted
 returns-in-Accepted c =

@@ -5,7 +5,7 @@ use native.Mathlib.Nat.{add_comm}
 use native.Mathlib.Omega.{arith}
 use borrow.Author.Rules.{rules}
 use borrow.Author.Tests.{eq-eqb, ne_eqb}
-use Rattle.cdf_lookup.proofs.Parting.{in-second, in-first, in_both}
+use Rattle.cdf_lookup.proofs.Parting.{in_second, in_first, in_both}
 use Rattle.cdf_lookup.proofs.lookup.Goals as goal
 
 pub overflow_add-end : goal.overflow_add-end
@@ -22,7 +22,7 @@ overflow_add-end c =
 pub slice_bounds-result-end : goal.slice_bounds-result-end
 slice_bounds-result-end c =
     let a = c.args in
-    omega (arith, in-second c.lookup_place-a.result.which a.first.now a.second.now _ c.lookup_place-a.ensures.within c.if-a-eq2.true)
+    omega (arith, in_second c.lookup_place-a.result.which a.first.now a.second.now _ c.lookup_place-a.ensures.within c.if-a-eq2.true)
 
 pub returns-then-a-eq2 : goal.returns-then-a-eq2
 returns-then-a-eq2 c =
@@ -34,7 +34,7 @@ returns-then-a-eq2 c =
 pub slice_bounds-result-end-2 : goal.slice_bounds-result-end-2
 slice_bounds-result-end-2 c =
     let a = c.args in
-    omega (arith, in-first c.lookup_place-a.result.which a.first.now a.second.now _ c.lookup_place-a.ensures.within c.if-a-eq2.false)
+    omega (arith, in_first c.lookup_place-a.result.which a.first.now a.second.now _ c.lookup_place-a.ensures.within c.if-a-eq2.false)
 
 pub returns : goal.returns
 returns c =

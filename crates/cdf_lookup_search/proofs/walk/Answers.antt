@@ -7,13 +7,13 @@ use Rattle.cdf_unit_data.specs.Standing.{name_row}
 use Rattle.cdf_reader_spec.specs.Calls.{next_of}
 use Rattle.cdf_reader.specs.View.{view, reply_of}
 use Rattle.cdf_reader.proofs.Proved.{proved}
-use Rattle.cdf_reader_runs.proofs.Further.{first-later, next-later, less}
+use Rattle.cdf_reader_runs.proofs.Further.{first_later, next_later, less}
 use Rattle.cdf_reader_runs.proofs.Folding.{begun, Turn, turned}
 use Rattle.cdf_lookup_spec.specs.Find.{query}
 use Rattle.cdf_lookup_spec.specs.Search.{advance_of}
 use Rattle.cdf_lookup_spec.specs.declared.Search.TheVariants.{Seeking}
 use Rattle.cdf_lookup_search.proofs.Rooted.{group_is}
-use Rattle.cdf_lookup_search.proofs.Searched.{nowhere, seek, lies_in, stays, goes_on, keeps-place, accepted, refused}
+use Rattle.cdf_lookup_search.proofs.Searched.{nowhere, seek, lies_in, stays, goes_on, keeps_place, accepted, refused}
 use Rattle.cdf_lookup_search.proofs.walk.Goals as goal
 use Rattle.cdf_lookup_search.proofs.walk.Goals.{then-not-is_over, else-not-is_over}
 
@@ -23,7 +23,7 @@ loop-a-init c =
     let l = layout_of c.edition_of-edition.result in
     let s = c.args.s.now in (
       begun _ l s Seeking (reply_of c.first_as-a.result) c.first_as-a.ensures.is,
-      (λ z. ((rw (← c.first_as-a.ensures.is) at (first-later l s)) z).1),
+      (λ z. ((rw (← c.first_as-a.ensures.is) at (first_later l s)) z).1),
       nowhere (length s),
       refl,
     )
@@ -46,7 +46,7 @@ loop-a-smaller c =
     let hand : Turn (seek l s q) l s Seeking a c.loop-a.state = turned (seek l s q) l s Seeking a c.loop-a.state c.loop-a.invariant.0 some in
     let next : reply_of c.advance-a.result ≡ next_of l s (view c.loop-a.a.place) =
     c.advance-a.ensures.is ∙ proved.advances _ c.loop-a.invariant.3 _ _ _ hand.fit in
-    less l s _ _ (reply_of c.advance-a.result) some (c.loop-a.invariant.1 some) (rw (← next) at (next-later l s (view c.loop-a.a.place)))
+    less l s _ _ (reply_of c.advance-a.result) some (c.loop-a.invariant.1 some) (rw (← next) at (next_later l s (view c.loop-a.a.place)))
 
 -- The place fits, so a step from it by the row is NEXT; and the unit was folded in, or the search is over.
 pub loop-a-preserved : goal.loop-a-preserved
@@ -62,12 +62,12 @@ loop-a-preserved c =
     c.advance-a.ensures.is ∙ proved.advances _ c.loop-a.invariant.3 _ _ _ hand.fit in
     let folded : c.if-not-is_over.state ≡ advance_of l s q state c.loop-a.a.handed.unit =
     elim c.if-not-is_over.branch [
-      then-not-is_over w ↦ w.state-is ∙ w.advance-state.ensures
-    | else-not-is_over w ↦ w.state-is ∙ stays l s q state c.loop-a.a.handed.unit (sym c.is_over.ensures ∙ w.if-not-is_over.false)
+      | then-not-is_over w ↦ w.state-is ∙ w.advance-state.ensures
+      | else-not-is_over w ↦ w.state-is ∙ stays l s q state c.loop-a.a.handed.unit (sym c.is_over.ensures ∙ w.if-not-is_over.false)
     ] in (
       rw next (goes_on l s q a state hand _ folded),
-      (λ z. ((rw (← next) at (next-later l s (view c.loop-a.a.place))) z).1),
-      keeps-place l s q a state hand _ folded c.loop-a.invariant.2,
+      (λ z. ((rw (← next) at (next_later l s (view c.loop-a.a.place))) z).1),
+      keeps_place l s q a state hand _ folded c.loop-a.invariant.2,
       c.loop-a.invariant.3,
     )
 

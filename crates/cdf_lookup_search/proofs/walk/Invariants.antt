@@ -12,14 +12,14 @@ use Rattle.cdf_unit_data.specs.Standing.{name_row}
 use Rattle.cdf_reader_spec.specs.Calls.{next_of}
 use Rattle.cdf_reader.specs.View.{view, reply_of}
 use Rattle.cdf_reader.proofs.Proved.{proved}
-use Rattle.cdf_reader_runs.proofs.Further.{first-later, next-later, ahead, less}
+use Rattle.cdf_reader_runs.proofs.Further.{first_later, next_later, ahead, less}
 use Rattle.cdf_reader_runs.proofs.Folding.{Going, begun, Turn, turned}
 use Rattle.cdf_lookup_spec.specs.Find.{Query, query}
 use Rattle.cdf_lookup_spec.specs.Search.{advance_of, outcome_of}
 use Rattle.cdf_lookup_spec.specs.declared.Search.TheVariants.{Seeking}
 use Rattle.cdf_lookup_search.specs.Placed.{Placed}
 use Rattle.cdf_lookup_search.proofs.Rooted.{group_is}
-use Rattle.cdf_lookup_search.proofs.Searched.{nowhere, seek, lies_in, stays, goes_on, keeps-place, accepted, refused}
+use Rattle.cdf_lookup_search.proofs.Searched.{nowhere, seek, lies_in, stays, goes_on, keeps_place, accepted, refused}
 use Rattle.cdf_lookup_search.proofs.walk.Given as goal
 
 abbrev pub invariant-loop-a : goal.invariant-loop-a

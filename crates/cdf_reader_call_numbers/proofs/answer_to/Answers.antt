@@ -2,7 +2,7 @@
 use mathlib.Core.Path.{sym, ap, ◌∙◌}
 use borrow.Author.Rules.{rules}
 use Rattle.cdf_reader_spec.specs.Calls.{Reply}
-use Rattle.cdf_reader_numbers.proofs.Calling.{take_within, Answered, leaves-old, leaves-new}
+use Rattle.cdf_reader_numbers.proofs.Calling.{take_within, Answered, leaves_old, leaves_new}
 use Rattle.cdf_reader_call_numbers.proofs.answer_to.Goals as goal
 
 pub part_by-part-requires : goal.part_by-part-requires
@@ -27,7 +27,7 @@ returns-then-is_kept c =
       by = c.part_by-part.ensures;
       written = c.write_answer.ensures;
     } in
-    leaves-old (answered) (sym c.is_kept.ensures ∙ c.if-is_kept.true)
+    leaves_old (answered) (sym c.is_kept.ensures ∙ c.if-is_kept.true)
 
 pub returns : goal.returns
 returns c =
@@ -47,4 +47,4 @@ returns c =
       by = c.part_by-part.ensures;
       written = c.write_answer.ensures;
     } in
-    leaves-new (answered) (sym c.is_kept.ensures ∙ c.if-is_kept.false) _ c.write_place.ensures
+    leaves_new (answered) (sym c.is_kept.ensures ∙ c.if-is_kept.false) _ c.write_place.ensures

@@ -3,40 +3,40 @@ use mathlib.Core.Path.{sym, ◌∙◌}
 use borrow.Author.Rules.{rules}
 use borrow.Author.Tests.{not-true, not-false}
 use Rattle.cdf_unit_prefix.specs.Layout.{layout_of}
-use Rattle.cdf_reader_fit.proofs.Parted.{past-not, end-not, bounds-not, last-not, ranks-not, by_chain}
+use Rattle.cdf_reader_fit.proofs.Parted.{past_not, end_not, bounds_not, last_not, ranks_not, by_chain}
 use Rattle.cdf_reader_fit.proofs.fits.Goals as goal
 
 pub returns-then-not-is_past : goal.returns-then-not-is_past
 returns-then-not-is_past c =
     let a = c.args in
     let low = c.is_past in
-    past-not (layout_of a.edition) a.n a.position a.count a.top a.o1 a.o2 a.o3 a.last a.fresh a.ranks
+    past_not (layout_of a.edition) a.n a.position a.count a.top a.o1 a.o2 a.o3 a.last a.fresh a.ranks
     (sym low.ensures ∙ not-true low.result c.if-not-is_past.true-raw)
 
 pub returns-then-top-position : goal.returns-then-top-position
 returns-then-top-position c =
     let a = c.args in
-    end-not (layout_of a.edition) a.n a.position a.count a.top a.o1 a.o2 a.o3 a.last a.fresh a.ranks c.if-top-position.true
+    end_not (layout_of a.edition) a.n a.position a.count a.top a.o1 a.o2 a.o3 a.last a.fresh a.ranks c.if-top-position.true
 
 pub returns-then-not-is_bounded : goal.returns-then-not-is_bounded
 returns-then-not-is_bounded c =
     let a = c.args in
     let bound = c.is_bounded in
-    bounds-not (layout_of a.edition) a.n a.position a.count a.top a.o1 a.o2 a.o3 a.last a.fresh a.ranks
+    bounds_not (layout_of a.edition) a.n a.position a.count a.top a.o1 a.o2 a.o3 a.last a.fresh a.ranks
     (sym bound.ensures ∙ not-true bound.result c.if-not-is_bounded.true-raw)
 
 pub returns-then-not-is_skippable : goal.returns-then-not-is_skippable
 returns-then-not-is_skippable c =
     let a = c.args in
     let flag = c.is_skippable in
-    last-not (layout_of a.edition) a.n a.position a.count a.top a.o1 a.o2 a.o3 a.last a.fresh a.ranks
+    last_not (layout_of a.edition) a.n a.position a.count a.top a.o1 a.o2 a.o3 a.last a.fresh a.ranks
     (sym flag.ensures ∙ not-true flag.result c.if-not-is_skippable.true-raw)
 
 pub returns-then-not-is_ranked : goal.returns-then-not-is_ranked
 returns-then-not-is_ranked c =
     let a = c.args in
     let ranked = c.is_ranked in
-    ranks-not (layout_of a.edition) a.n a.position a.count a.top a.o1 a.o2 a.o3 a.last a.fresh a.ranks
+    ranks_not (layout_of a.edition) a.n a.position a.count a.top a.o1 a.o2 a.o3 a.last a.fresh a.ranks
     (sym ranked.ensures ∙ not-true ranked.result c.if-not-is_ranked.true-raw)
 
 pub returns : goal.returns

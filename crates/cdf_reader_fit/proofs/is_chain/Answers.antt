@@ -3,7 +3,7 @@ use mathlib.Core.Path.{sym, ◌∙◌}
 use borrow.Author.Rules.{rules}
 use borrow.Author.Tests.{not-true, not-false}
 use Rattle.cdf_unit_prefix.specs.Layout.{layout_of}
-use Rattle.cdf_reader_fit.proofs.Chains.{single, first-not, double, second-not, triple, third-not, fourfold, too_many}
+use Rattle.cdf_reader_fit.proofs.Chains.{single, first_not, double, second_not, triple, third_not, fourfold, too_many}
 use Rattle.cdf_reader_fit.proofs.is_chain.Goals as goal
 
 pub returns-then-count-eq1 : goal.returns-then-count-eq1
@@ -14,7 +14,7 @@ returns-then-count-eq1 c =
 pub returns-then-not-is_outermost : goal.returns-then-not-is_outermost
 returns-then-not-is_outermost c =
     let a = c.args in
-    first-not (layout_of a.edition) a.n a.count a.top a.o1 a.o2 a.o3 c.if-count-eq1.false
+    first_not (layout_of a.edition) a.n a.count a.top a.o1 a.o2 a.o3 c.if-count-eq1.false
     (sym c.is_outermost-2.ensures ∙ not-true c.is_outermost-2.result c.if-not-is_outermost.true-raw)
 
 pub returns-then-count-eq2 : goal.returns-then-count-eq2
@@ -27,7 +27,7 @@ pub returns-then-not-is_under : goal.returns-then-not-is_under
 returns-then-not-is_under c =
     let one = sym c.is_outermost-2.ensures ∙ not-false c.is_outermost-2.result c.if-not-is_outermost.false-raw in
     let a = c.args in
-    second-not (layout_of a.edition) a.n a.count a.top a.o1 a.o2 a.o3 one
+    second_not (layout_of a.edition) a.n a.count a.top a.o1 a.o2 a.o3 one
     c.if-count-eq1.false c.if-count-eq2.false
     (sym c.is_under-2.ensures ∙ not-true c.is_under-2.result c.if-not-is_under.true-raw)
 
@@ -43,7 +43,7 @@ returns-then-not-is_under-2 c =
     let one = sym c.is_outermost-2.ensures ∙ not-false c.is_outermost-2.result c.if-not-is_outermost.false-raw in
     let two = sym c.is_under-2.ensures ∙ not-false c.is_under-2.result c.if-not-is_under.false-raw in
     let a = c.args in
-    third-not (layout_of a.edition) a.n a.count a.top a.o1 a.o2 a.o3 one two
+    third_not (layout_of a.edition) a.n a.count a.top a.o1 a.o2 a.o3 one two
     c.if-count-eq1.false c.if-count-eq2.false c.if-count-eq3.false
     (sym c.is_under-3.ensures ∙ not-true c.is_under-3.result c.if-not-is_under-2.true-raw)
 

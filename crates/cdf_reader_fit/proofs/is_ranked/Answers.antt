@@ -1,9 +1,9 @@
 -- Each test against the quotient, then by the count (proofs/Lows).
 use borrow.Author.Rules.{rules}
-use Rattle.cdf_reader_fit.proofs.Lows.{all-low}
+use Rattle.cdf_reader_fit.proofs.Lows.{all_low}
 use Rattle.cdf_reader_fit.proofs.is_ranked.Goals as goal
 
 pub returns : goal.returns
 returns c =
     let a = c.args in
-    all-low a.edition a.position a.count _ a.ranks c.most_rank-most.ensures
+    all_low a.edition a.position a.count _ a.ranks c.most_rank-most.ensures

@@ -2,7 +2,7 @@
 use mathlib.Core.Path.{sym, ◌∙◌}
 use borrow.Author.Tests.{not-true, not-false}
 use Rattle.cdf_reader_numbers.specs.Numbers.{place_from}
-use Rattle.cdf_reader_fit_numbers.proofs.Fitted.{not-past, not_in, not_last, not-ranked, by-held}
+use Rattle.cdf_reader_fit_numbers.proofs.Fitted.{not_past, not_in, not_last, not_ranked, by_held}
 use borrow.Author.Rules.{rules}
 use Rattle.cdf_reader_fit_numbers.proofs.fits_at.Goals as goal
 
@@ -10,7 +10,7 @@ pub returns-then-not-is_past : goal.returns-then-not-is_past
 returns-then-not-is_past c =
     let past = c.is_past in
     let a = c.args in
-    not-past a.edition a.n (place_from a.p.now) (sym past.ensures ∙ not-true past.result c.if-not-is_past.true-raw)
+    not_past a.edition a.n (place_from a.p.now) (sym past.ensures ∙ not-true past.result c.if-not-is_past.true-raw)
 
 pub returns-then-p-position : goal.returns-then-p-position
 returns-then-p-position c =
@@ -26,13 +26,13 @@ returns-then-not-is_last c =
 pub returns-then-most-p : goal.returns-then-most-p
 returns-then-most-p c =
     let a = c.args in
-    not-ranked a.edition a.n (place_from a.p.now) _ c.most_rank-most.ensures c.if-most-p.true
+    not_ranked a.edition a.n (place_from a.p.now) _ c.most_rank-most.ensures c.if-most-p.true
 
 pub returns : goal.returns
 returns c =
     let a = c.args in
     c.holds.ensures
-    ∙ by-held a.edition a.n (place_from a.p.now) _ c.most_rank-most.ensures
+    ∙ by_held a.edition a.n (place_from a.p.now) _ c.most_rank-most.ensures
     (sym c.is_past.ensures ∙ not-false c.is_past.result c.if-not-is_past.false-raw)
     c.if-p-position.false
     (sym c.is_last.ensures ∙ not-false c.is_last.result c.if-not-is_last.false-raw)

@@ -2,7 +2,7 @@
 use mathlib.Core.Path.{sym, ◌∙◌}
 use borrow.Author.Rules.{rules}
 use borrow.Author.Tests.{not-true, not-false}
-use Rattle.cdf_reader_next_c.proofs.Calling.{empty, no-fit, steps}
+use Rattle.cdf_reader_next_c.proofs.Calling.{empty, no_fit, steps}
 use Rattle.cdf_reader_next_c.proofs.cdf_next.Goals as goal
 
 pub returns-then-place-eq0 : goal.returns-then-place-eq0
@@ -13,7 +13,7 @@ returns-then-place-eq0 c =
 pub returns-then-not-fits_at : goal.returns-then-not-fits_at
 returns-then-not-fits_at c =
     let a = c.args in
-    no-fit a.s.now a.place.now c.if-place-eq0.false
+    no_fit a.s.now a.place.now c.if-place-eq0.false
     (rw c.edition_of-edition.ensures at (sym c.fits_at.ensures ∙ not-true c.fits_at.result c.if-not-fits_at.true-raw))
 
 pub returns : goal.returns

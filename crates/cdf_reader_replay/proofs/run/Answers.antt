@@ -4,7 +4,7 @@ use native.Mathlib.Omega.{arith}
 use lib.ListN.{length-drop}
 use Rattle.cdf_unit_table.proofs.Parts.{rest}
 use Rattle.cdf_unit_data.specs.Standing.{name_row}
-use Rattle.cdf_reader_replay_spec.proofs.Replaying.{long, fits_more, begun, on, finished, ended-unknown, ended-all}
+use Rattle.cdf_reader_replay_spec.proofs.Replaying.{long, fits_more, begun, on, finished, ended_unknown, ended_all}
 use Rattle.cdf_reader_replay.proofs.run.Goals as goal
 
 pub loop-k-init : goal.loop-k-init
@@ -24,7 +24,7 @@ returns-then-not-is_known c =
     let a = c.args in
     let inv = c.loop-k.invariant.0 in
     let all = finished a.s.now a.calls.now a.log.now inv
-    (ended-unknown a.s.now a.calls.now a.log.now inv c.loop-k-test.true (sym c.is_known.ensures ∙ c.if-not-is_known.true)) in
+    (ended_unknown a.s.now a.calls.now a.log.now inv c.loop-k-test.true (sym c.is_known.ensures ∙ c.if-not-is_known.true)) in
     record { count = all.0; written = all.1 }
 
 pub turn-o-requires : goal.turn-o-requires
@@ -62,5 +62,5 @@ pub returns : goal.returns
 returns c =
     let a = c.args in
     let inv = c.loop-k.invariant.0 in
-    let all = finished a.s.now a.calls.now a.log.now inv (ended-all a.s.now a.calls.now a.log.now inv c.loop-k-test.false) in
+    let all = finished a.s.now a.calls.now a.log.now inv (ended_all a.s.now a.calls.now a.log.now inv c.loop-k-test.false) in
     record { count = all.0; written = all.1 }

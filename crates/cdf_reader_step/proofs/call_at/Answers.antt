@@ -5,7 +5,7 @@ use lib.ListN.{length}
 use Rattle.cdf_unit_prefix.specs.Layout.{layout_of}
 use Rattle.cdf_unit_data.specs.Standing.{name_row}
 use Rattle.cdf_reader_spec.specs.Calls.{is_start}
-use Rattle.cdf_reader_step.proofs.Asking.{useless, unfit, fit-needed, counts, starts, steps, skips, takes, again}
+use Rattle.cdf_reader_step.proofs.Asking.{useless, unfit, fit_needed, counts, starts, steps, skips, takes, again}
 use Rattle.cdf_reader_step.proofs.call_at.Goals as goal
 
 pub returns-then-not-has_use : goal.returns-then-not-has_use
@@ -25,7 +25,7 @@ last_depth-depth-requires c =
     let a = c.args in
     let fit = sym c.is_ready.ensures ∙ c.if-not-is_ready.false in
     counts a.c (layout_of a.edition) (length a.s.now)
-    (fit-needed a.c (layout_of a.edition) a.s.now a.call fit (ap is_start c.in-Previous.is))
+    (fit_needed a.c (layout_of a.edition) a.s.now a.call fit (ap is_start c.in-Previous.is))
 
 pub returns-in-Start : goal.returns-in-Start
 returns-in-Start c =

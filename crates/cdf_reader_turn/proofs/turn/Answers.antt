@@ -16,8 +16,8 @@ use Rattle.cdf_unit_judge.proofs.Faults.{told}
 use Rattle.cdf_reader_cursor.specs.Outcomes.{cursor_place}
 use Rattle.cdf_reader_advance.specs.Advancing.{is_inside, rank_on}
 use Rattle.cdf_reader_advance.proofs.Standing.{before_is, from_is}
-use Rattle.cdf_reader_advance.proofs.Stepped.{leaves, at-end, at-incomplete, outside, inside-fault, no_room, following, slots}
-use Rattle.cdf_reader_advance.proofs.Stepped.{enters-found, within, unit-within, fault-within}
+use Rattle.cdf_reader_advance.proofs.Stepped.{leaves, at_end_lem, at_incomplete, outside, inside_fault, no_room, following, slots}
+use Rattle.cdf_reader_advance.proofs.Stepped.{enters_found, within, unit_within, fault_within}
 use Rattle.cdf_reader_turn.proofs.Stopping.{stops}
 use Rattle.cdf_reader_turn.proofs.turn.Goals as goal
 
@@ -26,12 +26,12 @@ judge edition = judge_of (layout_of edition) false
 
 pub returns-then-left-eq0 : goal.returns-then-left-eq0
 returns-then-left-eq0 c =
-    stops _ _ _ _ _ c.stopped.result c.stopped.ensures (λ z. omega arith) (at-end _ _ _ _ _ c.close-left.ensures c.if-left-eq0.true)
+    stops _ _ _ _ _ c.stopped.result c.stopped.ensures (λ z. omega arith) (at_end_lem _ _ _ _ _ c.close-left.ensures c.if-left-eq0.true)
 
 pub returns-then-stop-at : goal.returns-then-stop-at
 returns-then-stop-at c =
     stops _ _ _ _ _ c.stopped-then-stop-at.result c.stopped-then-stop-at.ensures (λ z. omega arith)
-    (at-incomplete _ _ _ _ _ c.close-left.ensures c.if-left-eq0.false c.if-stop-at.true)
+    (at_incomplete _ _ _ _ _ c.close-left.ensures c.if-left-eq0.false c.if-stop-at.true)
 
 pub returns-then-not-is_inside : goal.returns-then-not-is_inside
 returns-then-not-is_inside c =
@@ -43,7 +43,7 @@ pub overflow_add-broken : goal.overflow_add-broken
 overflow_add-broken c =
     let a = c.args in
     let lies = sym c.is_inside.ensures ∙ c.if-not-is_inside.false in
-    let w = fault-within (judge a.edition) a.s.now a.c _ _ c.close-left.ensures c.if-left-eq0.false c.if-stop-at.false lies
+    let w = fault_within (judge a.edition) a.s.now a.c _ _ c.close-left.ensures c.if-left-eq0.false c.if-stop-at.false lies
     (in_keeps name_bytes (layout_of a.edition) false) (sym c.judge.ensures ∙ c.in-Fault.is) in
     omega (arith, w)
 
@@ -52,7 +52,7 @@ returns-in-Fault c =
     let j = sym c.judge.ensures ∙ c.in-Fault.is in
     let low = (told (layout_of c.args.edition) false _ _ j).low in
     stops _ _ _ _ _ c.stopped-in-Fault.result c.stopped-in-Fault.ensures (λ z. omega (arith, low, z))
-    (inside-fault _ _ _ _ _ c.close-left.ensures c.if-left-eq0.false c.if-stop-at.false (sym c.is_inside.ensures ∙ c.if-not-is_inside.false) j)
+    (inside_fault _ _ _ _ _ c.close-left.ensures c.if-left-eq0.false c.if-stop-at.false (sym c.is_inside.ensures ∙ c.if-not-is_inside.false) j)
 
 pub returns-then-not-has_room : goal.returns-then-not-has_room
 returns-then-not-has_room c =
@@ -67,7 +67,7 @@ pub overflow_add-end : goal.overflow_add-end
 overflow_add-end c =
     let a = c.args in
     let lies = sym c.is_inside.ensures ∙ c.if-not-is_inside.false in
-    let w = unit-within (judge a.edition) a.s.now a.c _ _ c.close-left.ensures c.if-left-eq0.false c.if-stop-at.false lies
+    let w = unit_within (judge a.edition) a.s.now a.c _ _ c.close-left.ensures c.if-left-eq0.false c.if-stop-at.false lies
     (in_keeps name_bytes (layout_of a.edition) false) (sym c.judge.ensures ∙ c.in-Found.is) in
     omega (arith, w.1)
 
@@ -75,7 +75,7 @@ pub overflow_add-own_end : goal.overflow_add-own_end
 overflow_add-own_end c =
     let a = c.args in
     let lies = sym c.is_inside.ensures ∙ c.if-not-is_inside.false in
-    let w = unit-within (judge a.edition) a.s.now a.c _ _ c.close-left.ensures c.if-left-eq0.false c.if-stop-at.false lies
+    let w = unit_within (judge a.edition) a.s.now a.c _ _ c.close-left.ensures c.if-left-eq0.false c.if-stop-at.false lies
     (in_keeps name_bytes (layout_of a.edition) false) (sym c.judge.ensures ∙ c.in-Found.is) in
     omega (arith, w.0, w.1)
 
@@ -91,5 +91,5 @@ returns-else-not-has_room c =
     let fits : length a.s.now < 18446744073709551616 = omega arith in
     let follow = following (judge a.edition) a.s.now a.c _ _ c.close-left.ensures c.if-left-eq0.false c.if-stop-at.false lies j _ before room fits in
     let deep : c.close-left.result.count + 1 ≡ suc c.close-left.result.count = omega arith in
-    enters-found _ _ _ _ _ c.close-left.ensures c.if-left-eq0.false c.if-stop-at.false lies j _ before room _ _ deep
+    enters_found _ _ _ _ _ c.close-left.ensures c.if-left-eq0.false c.if-stop-at.false lies j _ before room _ _ deep
     (c.next_rank-rank.ensures ∙ from_is _ _ _ follow)

@@ -5,7 +5,7 @@ use Rattle.cdf_unit_data.specs.Standing.{name_row}
 use Rattle.cdf_reader_spec.specs.Calls.{next_of}
 use Rattle.cdf_reader.specs.View.{view, reply_of}
 use Rattle.cdf_reader.proofs.Proved.{proved}
-use Rattle.cdf_reader_runs.proofs.Further.{first-later, next-later, less}
+use Rattle.cdf_reader_runs.proofs.Further.{first_later, next_later, less}
 use Rattle.cdf_reader_runs.proofs.Folding.{begun, Turn, turned}
 use Rattle.cdf_reader_walk.specs.Fold.{mix_of}
 use Rattle.cdf_reader_walk.proofs.Walking.{ended_walk}
@@ -17,7 +17,7 @@ loop-a-init c =
     let l = layout_of c.edition_of-edition.result in
     let s = c.args.s.now in (
       begun mix_of l s 0 (reply_of c.first_as-a.result) c.first_as-a.ensures.is,
-      (λ z. ((rw (← c.first_as-a.ensures.is) at (first-later l s)) z).1),
+      (λ z. ((rw (← c.first_as-a.ensures.is) at (first_later l s)) z).1),
       refl,
     )
 
@@ -30,7 +30,7 @@ loop-a-smaller c =
     let p = view c.loop-a.a.place in
     let hand : Turn mix_of l s 0 (reply_of c.loop-a.a) c.loop-a.h = turned mix_of l s 0 (reply_of c.loop-a.a) c.loop-a.h c.loop-a.invariant.0 some in
     let next : reply_of c.advance-a.result ≡ next_of l s p = c.advance-a.ensures.is ∙ proved.advances _ c.loop-a.invariant.2 _ _ _ hand.fit in
-    less l s _ _ (reply_of c.advance-a.result) some (c.loop-a.invariant.1 some) (rw (← next) at (next-later l s p))
+    less l s _ _ (reply_of c.advance-a.result) some (c.loop-a.invariant.1 some) (rw (← next) at (next_later l s p))
 
 pub loop-a-preserved : goal.loop-a-preserved
 loop-a-preserved c =
@@ -41,7 +41,7 @@ loop-a-preserved c =
     let hand : Turn mix_of l s 0 (reply_of c.loop-a.a) c.loop-a.h = turned mix_of l s 0 (reply_of c.loop-a.a) c.loop-a.h c.loop-a.invariant.0 some in
     let next : reply_of c.advance-a.result ≡ next_of l s p = c.advance-a.ensures.is ∙ proved.advances _ c.loop-a.invariant.2 _ _ _ hand.fit in (
       rw (next, c.mix-h.ensures) hand.next,
-      (λ z. ((rw (← next) at (next-later l s p)) z).1),
+      (λ z. ((rw (← next) at (next_later l s p)) z).1),
       c.loop-a.invariant.2,
     )
 

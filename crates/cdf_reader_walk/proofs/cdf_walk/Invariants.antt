@@ -9,7 +9,7 @@ use Rattle.cdf_unit_data.specs.Standing.{name_row}
 use Rattle.cdf_reader_spec.specs.Calls.{next_of}
 use Rattle.cdf_reader.specs.View.{view, reply_of}
 use Rattle.cdf_reader.proofs.Proved.{proved}
-use Rattle.cdf_reader_runs.proofs.Further.{first-later, next-later, ahead, less}
+use Rattle.cdf_reader_runs.proofs.Further.{first_later, next_later, ahead, less}
 use Rattle.cdf_reader_runs.proofs.Folding.{Going, begun, Turn, turned}
 use Rattle.cdf_reader_walk.specs.Fold.{mix_of}
 use Rattle.cdf_reader_walk.proofs.Walking.{ended_walk}

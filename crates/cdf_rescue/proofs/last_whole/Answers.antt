@@ -7,11 +7,11 @@ use borrow.Author.Rules.{rules}
 use lib.ListN.{length}
 use Rattle.cdf_unit_prefix.specs.Layout.{layout_of}
 use Rattle.cdf_unit_table.proofs.Parts.{rest}
-use Rattle.cdf_rescue.proofs.Spans.{Kept, kept-none, kept_on, kept-all}
+use Rattle.cdf_rescue.proofs.Spans.{Kept, kept_none, kept_on, kept_all}
 use Rattle.cdf_rescue.proofs.last_whole.Goals as goal
 
 pub loop-at-init : goal.loop-at-init
-loop-at-init c = kept-none _ _ _ c.requires
+loop-at-init c = kept_none _ _ _ c.requires
 
 pub slice_bounds-whole_at-count : goal.slice_bounds-whole_at-count
 slice_bounds-whole_at-count c = omega arith
@@ -24,7 +24,7 @@ slice_bounds-whole_at-end c = omega arith
 
 pub returns-then-length-eq0 : goal.returns-then-length-eq0
 returns-then-length-eq0 c =
-    kept-all _ _ _ _ c.loop-at.invariant (inr (sym (simp rest at c.whole_at-length.ensures.is) ∙ c.if-length-eq0.true))
+    kept_all _ _ _ _ c.loop-at.invariant (inr (sym (simp rest at c.whole_at-length.ensures.is) ∙ c.if-length-eq0.true))
 
 pub overflow_add-at : goal.overflow_add-at
 overflow_add-at c = omega arith
@@ -39,4 +39,4 @@ loop-at-preserved c =
 
 pub returns : goal.returns
 returns c =
-    kept-all _ _ _ _ c.loop-at.invariant (inl (omega (arith, c.loop-at.invariant.high, c.loop-at-test.false)))
+    kept_all _ _ _ _ c.loop-at.invariant (inl (omega (arith, c.loop-at.invariant.high, c.loop-at-test.false)))

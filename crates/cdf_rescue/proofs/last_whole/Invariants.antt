@@ -7,7 +7,7 @@ use borrow.Author.Rules.{rules}
 use lib.ListN.{length}
 use Rattle.cdf_unit_prefix.specs.Layout.{layout_of}
 use Rattle.cdf_unit_table.proofs.Parts.{rest}
-use Rattle.cdf_rescue.proofs.Spans.{Kept, kept-none, kept_on, kept-all}
+use Rattle.cdf_rescue.proofs.Spans.{Kept, kept_none, kept_on, kept_all}
 use Rattle.cdf_rescue.proofs.last_whole.Given as goal
 
 abbrev pub invariant-loop-at : goal.invariant-loop-at

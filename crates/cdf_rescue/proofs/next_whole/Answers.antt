@@ -9,8 +9,8 @@ use lib.ListN.{length, get_or, drop}
 use lib.Seq.{get_or-drop}
 use Rattle.cdf_unit_prefix.specs.Layout.{layout_of}
 use Rattle.cdf_unit_table.proofs.Parts.{rest}
-use Rattle.cdf_rescue.proofs.Units.{none-headed, none-marked}
-use Rattle.cdf_rescue.proofs.Spans.{Passed, passed_none, passed_on, passed-all}
+use Rattle.cdf_rescue.proofs.Units.{none_headed, none_marked}
+use Rattle.cdf_rescue.proofs.Spans.{Passed, passed_none, passed_on, passed_all}
 use Rattle.cdf_rescue.proofs.next_whole.Goals as goal
 use Rattle.cdf_rescue.proofs.next_whole.Goals.{then-s-at+then-is_headed+else-whole_at-ne0, then-s-at+else-is_headed, else-s-at}
 
@@ -37,7 +37,7 @@ slice_bounds-whole_at-end c = omega arith
 
 pub returns-then-whole_at-ne0 : goal.returns-then-whole_at-ne0
 returns-then-whole_at-ne0 c =
-    passed-all _ _ _ _ c.loop-at.invariant (inr (λ z. c.if-whole_at-ne0.true (simp rest at c.whole_at.ensures.is ∙ z)))
+    passed_all _ _ _ _ c.loop-at.invariant (inr (λ z. c.if-whole_at-ne0.true (simp rest at c.whole_at.ensures.is ∙ z)))
 
 pub overflow_add-at : goal.overflow_add-at
 overflow_add-at c = omega (arith, c.loop-at-test.true)
@@ -57,10 +57,10 @@ loop-at-preserved c =
     let on = passed_on _ _ _ _ c.loop-at.invariant c.loop-at-test.true in
     elim c.if-s-at.branch [
       | then-s-at+then-is_headed+else-whole_at-ne0 w ↦ on (sym (simp rest at w.whole_at.ensures.is) ∙ w.if-whole_at-ne0.false)
-      | then-s-at+else-is_headed w ↦ on (none-headed _ _ (simp rest at (sym w.is_headed.ensures ∙ w.if-is_headed.false)))
-      | else-s-at w ↦ on (none-marked _ _ (λ z. w.if-s-at.false (front bytes here ∙ z)))
+      | then-s-at+else-is_headed w ↦ on (none_headed _ _ (simp rest at (sym w.is_headed.ensures ∙ w.if-is_headed.false)))
+      | else-s-at w ↦ on (none_marked _ _ (λ z. w.if-s-at.false (front bytes here ∙ z)))
     ]
 
 pub returns : goal.returns
 returns c =
-    passed-all _ _ _ _ c.loop-at.invariant (inl (omega (arith, c.loop-at.invariant.high, c.loop-at-test.false)))
+    passed_all _ _ _ _ c.loop-at.invariant (inl (omega (arith, c.loop-at.invariant.high, c.loop-at-test.false)))

@@ -9,8 +9,8 @@ use lib.ListN.{length, get_or, drop}
 use lib.Seq.{get_or-drop}
 use Rattle.cdf_unit_prefix.specs.Layout.{layout_of}
 use Rattle.cdf_unit_table.proofs.Parts.{rest}
-use Rattle.cdf_rescue.proofs.Units.{none-headed, none-marked}
-use Rattle.cdf_rescue.proofs.Spans.{Passed, passed_none, passed_on, passed-all}
+use Rattle.cdf_rescue.proofs.Units.{none_headed, none_marked}
+use Rattle.cdf_rescue.proofs.Spans.{Passed, passed_none, passed_on, passed_all}
 use Rattle.cdf_rescue.proofs.next_whole.Given as goal
 
 abbrev pub invariant-loop-at : goal.invariant-loop-at

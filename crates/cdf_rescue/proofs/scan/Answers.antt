@@ -5,7 +5,7 @@ use native.Mathlib.Omega.{arith}
 use borrow.Author.Rules.{rules}
 use lib.ListN.{length}
 use Rattle.cdf_unit_prefix.specs.Layout.{layout_of}
-use Rattle.cdf_rescue.proofs.Scanning.{Scanning, scan-begun, later, scan-on, scan-many, scan-all}
+use Rattle.cdf_rescue.proofs.Scanning.{Scanning, scan_begun, later, scan_on, scan_many, scan_all}
 use Rattle.cdf_rescue.proofs.scan.Goals as goal
 
 pub last_whole-at-requires : goal.last_whole-at-requires
@@ -15,11 +15,11 @@ pub overflow_sub-kept : goal.overflow_sub-kept
 overflow_sub-kept c = c.last_whole-at.ensures.low
 
 pub loop-at-init : goal.loop-at-init
-loop-at-init c = rw (← c.prefix-first.ensures.is) at (scan-begun _ _ _ (rw c.prefix-first.ensures.is at c.last_whole-at.ensures))
+loop-at-init c = rw (← c.prefix-first.ensures.is) at (scan_begun _ _ _ (rw c.prefix-first.ensures.is at c.last_whole-at.ensures))
 
 pub returns-then-runs-eq64 : goal.returns-then-runs-eq64
 returns-then-runs-eq64 c =
-    scan-many _ _ _ _ _ _ _ c.loop-at.invariant c.loop-at-test.true c.if-runs-eq64.true _ refl
+    scan_many _ _ _ _ _ _ _ c.loop-at.invariant c.loop-at-test.true c.if-runs-eq64.true _ refl
 
 pub next_whole-start-requires : goal.next_whole-start-requires
 next_whole-start-requires c = c.loop-at.invariant.high
@@ -55,8 +55,8 @@ loop-at-smaller c =
 
 pub loop-at-preserved : goal.loop-at-preserved
 loop-at-preserved c =
-    scan-on _ _ _ _ _ _ _ c.loop-at.invariant c.loop-at-test.true _ _ (omega (arith, c.if-runs-eq64.false, c.loop-at.invariant.few)) c.next_whole-start.ensures
+    scan_on _ _ _ _ _ _ _ c.loop-at.invariant c.loop-at-test.true _ _ (omega (arith, c.if-runs-eq64.false, c.loop-at.invariant.few)) c.next_whole-start.ensures
     c.last_whole-at-in-loop-at.ensures
 
 pub returns : goal.returns
-returns c = scan-all _ _ _ _ _ _ _ c.loop-at.invariant c.loop-at-test.false _ refl refl refl refl refl
+returns c = scan_all _ _ _ _ _ _ _ c.loop-at.invariant c.loop-at-test.false _ refl refl refl refl refl

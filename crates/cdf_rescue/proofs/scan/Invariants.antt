@@ -5,7 +5,7 @@ use native.Mathlib.Omega.{arith}
 use borrow.Author.Rules.{rules}
 use lib.ListN.{length}
 use Rattle.cdf_unit_prefix.specs.Layout.{layout_of}
-use Rattle.cdf_rescue.proofs.Scanning.{Scanning, scan-begun, later, scan-on, scan-many, scan-all}
+use Rattle.cdf_rescue.proofs.Scanning.{Scanning, scan_begun, later, scan_on, scan_many, scan_all}
 use Rattle.cdf_rescue.proofs.scan.Given as goal
 
 abbrev pub invariant-loop-at : goal.invariant-loop-at

@@ -11,7 +11,7 @@ use Rattle.cdf_builder_write.proofs.Patching.{length_patch}
 use Rattle.cdf_rescue_spec.specs.Salvage.{group_of}
 use Rattle.cdf_rescue.specs.Parts.{kept_of}
 use Rattle.cdf_rescue.proofs.Copying.{Copying, copy_begun, Turn, turn, Last, last}
-use Rattle.cdf_rescue.proofs.Heading.{all-written}
+use Rattle.cdf_rescue.proofs.Heading.{all_written}
 use Rattle.cdf_rescue.proofs.write_group.Goals as goal
 use Rattle.cdf_rescue.proofs.write_group.Goals.{In-loop-i, After-loop-i}
 
@@ -112,7 +112,7 @@ overflow_add-place-2 c =
 pub returns : goal.returns
 returns c =
     let done = end (goal.at.returns c).After-loop-i in
-    all-written _ _ _ c.requires.fits _ _ _ _ done.size (done.all _ (simp rest at c.write_bytes-2.ensures)) c.write_unit.ensures c.write_length.ensures
+    all_written _ _ _ c.requires.fits _ _ _ _ done.size (done.all _ (simp rest at c.write_bytes-2.ensures)) c.write_unit.ensures c.write_length.ensures
 
 pub shape_of-out : goal.shape_of-out
 shape_of-out c = ap length (returns c) ∙ length_patch _ _ _

@@ -11,7 +11,7 @@ use Rattle.cdf_builder_write.proofs.Patching.{length_patch}
 use Rattle.cdf_rescue_spec.specs.Salvage.{group_of}
 use Rattle.cdf_rescue.specs.Parts.{kept_of}
 use Rattle.cdf_rescue.proofs.Copying.{Copying, copy_begun, Turn, turn, Last, last}
-use Rattle.cdf_rescue.proofs.Heading.{all-written}
+use Rattle.cdf_rescue.proofs.Heading.{all_written}
 use Rattle.cdf_rescue.proofs.write_group.Given as goal
 
 abbrev pub invariant-loop-i : goal.invariant-loop-i

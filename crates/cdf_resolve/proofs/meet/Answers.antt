@@ -1,13 +1,13 @@
 -- By the id behind it, and its own.
 use mathlib.Core.Logic.{inl, inr}
 use borrow.Author.Rules.{rules}
-use Rattle.cdf_resolve.proofs.Walking.{add_ranks, meet-none, meet-template, meet-key, meet-other}
+use Rattle.cdf_resolve.proofs.Walking.{add_ranks, meet_none, meet_template, meet_key, meet_other}
 use Rattle.cdf_resolve.proofs.meet.Goals as goal
 
 pub returns-then-id-ne-TEMPORARY_KEY : goal.returns-then-id-ne-TEMPORARY_KEY
 returns-then-id-ne-TEMPORARY_KEY c =
     let a = c.args in
-    λ before p k w. rw (meet-none _ a.s.now p a.owner a.id c.if-id-ne-TEMPORARY_KEY.true) (k, w)
+    λ before p k w. rw (meet_none _ a.s.now p a.owner a.id c.if-id-ne-TEMPORARY_KEY.true) (k, w)
 
 pub hold-requires : goal.hold-requires
 hold-requires c =
@@ -18,7 +18,7 @@ pub returns-then-kind-eq-TEMPLATE : goal.returns-then-kind-eq-TEMPLATE
 returns-then-kind-eq-TEMPLATE c =
     let a = c.args in
     λ before p k w.
-    rw (meet-template _ a.s.now p a.owner a.id c.if-id-ne-TEMPORARY_KEY.false c.if-kind-eq-TEMPLATE.true)
+    rw (meet_template _ a.s.now p a.owner a.id c.if-id-ne-TEMPORARY_KEY.false c.if-kind-eq-TEMPLATE.true)
     (c.hold.ensures p k, rw (add_ranks _ a.s.now p a.owner) w)
 
 pub tell-requires : goal.tell-requires
@@ -30,10 +30,10 @@ pub returns-then-kind-eq-ENTITY_KEY : goal.returns-then-kind-eq-ENTITY_KEY
 returns-then-kind-eq-ENTITY_KEY c =
     let a = c.args in
     λ before p k w.
-    rw (meet-key _ a.s.now p a.owner a.id c.if-id-ne-TEMPORARY_KEY.false c.if-kind-eq-TEMPLATE.false c.if-kind-eq-ENTITY_KEY.true) (c.tell.ensures before p k w)
+    rw (meet_key _ a.s.now p a.owner a.id c.if-id-ne-TEMPORARY_KEY.false c.if-kind-eq-TEMPLATE.false c.if-kind-eq-ENTITY_KEY.true) (c.tell.ensures before p k w)
 
 pub returns : goal.returns
 returns c =
     let a = c.args in
     λ before p k w.
-    rw (meet-other _ a.s.now p a.owner a.id c.if-id-ne-TEMPORARY_KEY.false c.if-kind-eq-TEMPLATE.false c.if-kind-eq-ENTITY_KEY.false) (k, w)
+    rw (meet_other _ a.s.now p a.owner a.id c.if-id-ne-TEMPORARY_KEY.false c.if-kind-eq-TEMPLATE.false c.if-kind-eq-ENTITY_KEY.false) (k, w)

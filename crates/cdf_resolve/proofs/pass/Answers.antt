@@ -9,9 +9,9 @@ use Rattle.cdf_check.proofs.Exact.{bytes_of}
 use Rattle.cdf_reader_spec.specs.Calls.{next_of}
 use Rattle.cdf_reader.specs.View.{view, reply_of}
 use Rattle.cdf_reader.proofs.Proved.{proved}
-use Rattle.cdf_reader_runs.proofs.Further.{next-later, less}
+use Rattle.cdf_reader_runs.proofs.Further.{next_later, less}
 use Rattle.cdf_resolve_spec.proofs.Pairing.{orderly}
-use Rattle.cdf_resolve.proofs.Walking.{walk-begun, walk-over, walk-ready, walk-lies, walk-fits, walk-on, root_width}
+use Rattle.cdf_resolve.proofs.Walking.{walk_begun, walk_over, walk_ready, walk_lies, walk_fits, walk_on, root_width}
 use Rattle.cdf_resolve.proofs.pass.Goals as goal
 
 pub loop-a-init : goal.loop-a-init
@@ -22,7 +22,7 @@ loop-a-init c =
     let o = orderly (edition_of s) s tree.0 tree.1 in
     let group = c.requires.1 in
     let is = rw c.edition_of-edition.ensures at c.first_as-a.ensures.is in
-    (o, group, walk-begun _ s o group _ _ is, refl, root_width _ s o group _ is)
+    (o, group, walk_begun _ s o group _ _ is, refl, root_width _ s o group _ is)
 
 pub meet-t-requires : goal.meet-t-requires
 meet-t-requires c =
@@ -31,8 +31,8 @@ meet-t-requires c =
     let i = c.loop-a.invariant in
     let some = c.loop-a-test.true in (
       i.4,
-      walk-ready l s i.0 i.1 _ _ _ _ _ _ _ _ i.2 some,
-      walk-lies l s i.0 i.1 _ _ _ _ _ _ _ _ i.2 some,
+      walk_ready l s i.0 i.1 _ _ _ _ _ _ _ _ i.2 some,
+      walk_lies l s i.0 i.1 _ _ _ _ _ _ _ _ i.2 some,
     )
 
 -- The place fits, so a step from it by the row is NEXT.
@@ -44,8 +44,8 @@ loop-a-smaller c =
     let some = c.loop-a-test.true in
     let next : reply_of c.advance-a.result ≡ next_of l s (view c.loop-a.a.place) =
     (rw c.edition_of-edition.ensures at c.advance-a.ensures.is)
-    ∙ proved.advances _ i.3 _ _ _ (walk-fits l s i.0 i.1 _ _ _ _ _ _ _ _ i.2 some) in
-    less l s _ _ (reply_of c.advance-a.result) some (i.2.count some).1 (rw (← next) at (next-later l s (view c.loop-a.a.place)))
+    ∙ proved.advances _ i.3 _ _ _ (walk_fits l s i.0 i.1 _ _ _ _ _ _ _ _ i.2 some) in
+    less l s _ _ (reply_of c.advance-a.result) some (i.2.count some).1 (rw (← next) at (next_later l s (view c.loop-a.a.place)))
 
 pub loop-a-preserved : goal.loop-a-preserved
 loop-a-preserved c =
@@ -55,10 +55,10 @@ loop-a-preserved c =
     let some = c.loop-a-test.true in
     let next : reply_of c.advance-a.result ≡ next_of l s (view c.loop-a.a.place) =
     (rw c.edition_of-edition.ensures at c.advance-a.ensures.is)
-    ∙ proved.advances _ i.3 _ _ _ (walk-fits l s i.0 i.1 _ _ _ _ _ _ _ _ i.2 some) in (
+    ∙ proved.advances _ i.3 _ _ _ (walk_fits l s i.0 i.1 _ _ _ _ _ _ _ _ i.2 some) in (
       i.0,
       i.1,
-      rw next (walk-on l s i.0 i.1 _ _ _ _ _ _ _ _ i.2 some _ _ _ _ _ c.meet-t.ensures),
+      rw next (walk_on l s i.0 i.1 _ _ _ _ _ _ _ _ i.2 some _ _ _ _ _ c.meet-t.ensures),
       i.3,
       i.4,
     )
@@ -70,4 +70,4 @@ pub returns : goal.returns
 returns c =
     let s = c.args.s.now in
     let i = c.loop-a.invariant in
-    walk-over (layout_for s) s i.0 i.1 c.args.list.now _ _ _ _ _ _ _ i.2 c.loop-a-test.false c.requires.0
+    walk_over (layout_for s) s i.0 i.1 c.args.list.now _ _ _ _ _ _ _ i.2 c.loop-a-test.false c.requires.0

@@ -14,10 +14,10 @@ use Rattle.cdf_check.proofs.Exact.{bytes_of}
 use Rattle.cdf_reader_spec.specs.Calls.{next_of}
 use Rattle.cdf_reader.specs.View.{view, reply_of}
 use Rattle.cdf_reader.proofs.Proved.{proved}
-use Rattle.cdf_reader_runs.proofs.Further.{next-later, ahead, less}
+use Rattle.cdf_reader_runs.proofs.Further.{next_later, ahead, less}
 use Rattle.cdf_lookup_spec.specs.Find.{is_group}
 use Rattle.cdf_resolve_spec.proofs.Pairing.{Orderly, orderly}
-use Rattle.cdf_resolve.proofs.Walking.{Walking, walk-begun, walk-over, walk-ready, walk-lies, walk-fits, walk-on, root_width}
+use Rattle.cdf_resolve.proofs.Walking.{Walking, walk_begun, walk_over, walk_ready, walk_lies, walk_fits, walk_on, root_width}
 use Rattle.cdf_resolve.proofs.pass.Given as goal
 
 abbrev pub invariant-loop-a : goal.invariant-loop-a

@@ -1,5 +1,5 @@
 -- The check first.
-use Rattle.cdf_resolve.proofs.Answering.{accepts, by-check}
+use Rattle.cdf_resolve.proofs.Answering.{accepts, by_check}
 use Rattle.cdf_resolve.proofs.resolve.Goals as goal
 
 pub resolve_accepted-requires : goal.resolve_accepted-requires
@@ -9,6 +9,6 @@ resolve_accepted-requires c =
 pub returns-in-Refused : goal.returns-in-Refused
 returns-in-Refused c =
     let a = c.args in
-    let all = by-check _ a.s.now a.list.now _ c.check.ensures.answer c.check.ensures.is _ _ c.in-Refused.is _
+    let all = by_check _ a.s.now a.list.now _ c.check.ensures.answer c.check.ensures.is _ _ c.in-Refused.is _
     c.refused.ensures in
     record { is = all.0; ranks = all.1 }

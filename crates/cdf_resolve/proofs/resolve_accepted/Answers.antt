@@ -12,7 +12,7 @@ use Rattle.cdf_unit_list.specs.Units.{listing}
 use Rattle.cdf_reader.specs.View.{reply_of}
 use Rattle.cdf_lookup_spec.specs.Find.{is_group}
 use Rattle.cdf_lookup_search.proofs.Rooted.{group_is}
-use Rattle.cdf_resolve.proofs.Answering.{by-refusal, refused-root, by_first, by-second}
+use Rattle.cdf_resolve.proofs.Answering.{by_refusal, refused_root, by_first, by_second}
 use Rattle.cdf_resolve.proofs.resolve_accepted.Goals as goal
 
 pub returns-then-root-ne-ER_GROUP : goal.returns-then-root-ne-ER_GROUP
@@ -20,7 +20,7 @@ returns-then-root-ne-ER_GROUP c =
     let bytes = c.args.s.now in
     let list = c.args.list.now in
     let other = sym (group_is _ (bytes) (reply_of c.first-a.result) c.first-a.ensures.is) ∙ ne_eqb _ _ c.if-root-ne-ER_GROUP.true in
-    let all = by-refusal _ (bytes) (list) 7 0 (refused-root _ (bytes) (list) c.requires other)
+    let all = by_refusal _ (bytes) (list) 7 0 (refused_root _ (bytes) (list) c.requires other)
     (λ z. omega arith) _ c.refused.ensures in
     record { is = all.0; ranks = all.1 }
 
@@ -49,6 +49,6 @@ pub returns : goal.returns
 returns c =
     let bytes = c.args.s.now in
     let list = c.args.list.now in
-    let all = by-second _ (bytes) (list) c.pass-t.result c.told-answer.result c.told-answer.ensures c.pass-t.ensures.answer
+    let all = by_second _ (bytes) (list) c.pass-t.result c.told-answer.result c.told-answer.ensures c.pass-t.ensures.answer
     c.if-answer-ne0.false c.pass.result _ c.pass.ensures in
     record { is = all.0; ranks = all.1 }

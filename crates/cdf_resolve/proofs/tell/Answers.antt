@@ -1,5 +1,5 @@
 -- What is found is told.
-use Rattle.cdf_resolve.proofs.Keeping.{tell_none, tell-rank}
+use Rattle.cdf_resolve.proofs.Keeping.{tell_none, tell_rank}
 use Rattle.cdf_resolve.proofs.tell.Goals as goal
 
 pub returns-then-i-n : goal.returns-then-i-n
@@ -14,4 +14,4 @@ returns c =
     let a = c.args in
     λ before p k w.
     rw c.put.ensures
-    (tell-rank _ a.s.now p a.t _ _ _ k a.owner before a.list.now w _ c.find-i.ensures c.if-i-n.false)
+    (tell_rank _ a.s.now p a.t _ _ _ k a.owner before a.list.now w _ c.find-i.ensures c.if-i-n.false)

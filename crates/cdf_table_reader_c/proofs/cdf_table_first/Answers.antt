@@ -3,10 +3,10 @@ use mathlib.Core.Path.{refl, sym, ◌∙◌}
 use borrow.Author.Rules.{rules}
 use Rattle.cdf_reader_spec.specs.Calls.{no_part}
 use Rattle.cdf_reader_spec.specs.declared.Call.TheVariants.{Start}
-use Rattle.cdf_reader_spec.proofs.Replying.{start-named}
+use Rattle.cdf_reader_spec.proofs.Replying.{start_named}
 use Rattle.cdf_reader.specs.View.{view}
 use Rattle.cdf_reader_numbers.specs.Numbers.{place_from}
-use Rattle.cdf_reader_numbers.proofs.Calling.{Answered, leaves-new}
+use Rattle.cdf_reader_numbers.proofs.Calling.{Answered, leaves_new}
 use Rattle.cdf_table_reader_spec.proofs.Alike.{first_alike}
 use Rattle.cdf_table_reader_spec.proofs.Other.{start_other}
 use Rattle.cdf_table_reader_c.proofs.cdf_table_first.Goals as goal
@@ -18,11 +18,11 @@ returns c =
     record {
       place = place_from a.place.now;
       read = refl;
-      due = c.table_first-a.ensures.is ∙ first_alike _ _ ∙ sym (start-named _ _ (view (place_from a.place.now)));
+      due = c.table_first-a.ensures.is ∙ first_alike _ _ ∙ sym (start_named _ _ (view (place_from a.place.now)));
       kept = c.table_first-a.ensures.kept;
       again = λ e. start_other e;
       part = no_part;
       by = refl;
       written = c.write_unit.ensures;
     } in
-    leaves-new (answered) refl _ c.write_place.ensures
+    leaves_new (answered) refl _ c.write_place.ensures

@@ -4,9 +4,9 @@ use borrow.Author.Rules.{rules}
 use borrow.Author.Tests.{eq-eqb, ne_eqb}
 use Rattle.cdf_reader_spec.specs.Calls.{no_part}
 use Rattle.cdf_reader_spec.specs.declared.Call.TheVariants.{Next}
-use Rattle.cdf_reader_spec.proofs.Replying.{next-named}
-use Rattle.cdf_reader_numbers.proofs.Calling.{Answered, leaves-old, leaves-new}
-use Rattle.cdf_table_reader_spec.proofs.Alike.{next-alike}
+use Rattle.cdf_reader_spec.proofs.Replying.{next_named}
+use Rattle.cdf_reader_numbers.proofs.Calling.{Answered, leaves_old, leaves_new}
+use Rattle.cdf_table_reader_spec.proofs.Alike.{next_alike}
 use Rattle.cdf_table_reader_spec.proofs.Other.{next_other}
 use Rattle.cdf_table_reader_c.proofs.cdf_table_next.Goals as goal
 
@@ -19,14 +19,14 @@ returns-then-a-ne0 c =
     record {
       place = c.place_from-p.result;
       read = c.place_from-p.ensures;
-      due = c.next-a.ensures.is ∙ next-alike _ _ _ ∙ sym (next-named _ _ _);
+      due = c.next-a.ensures.is ∙ next_alike _ _ _ ∙ sym (next_named _ _ _);
       kept = c.next-a.ensures.kept;
       again = λ e. next_other e;
       part = no_part;
       by = refl;
       written = c.write_unit.ensures;
     } in
-    leaves-old (answered) (rw (ne_eqb _ 0 c.if-a-ne0.true))
+    leaves_old (answered) (rw (ne_eqb _ 0 c.if-a-ne0.true))
 
 pub returns : goal.returns
 returns c =
@@ -37,11 +37,11 @@ returns c =
     record {
       place = c.place_from-p.result;
       read = c.place_from-p.ensures;
-      due = c.next-a.ensures.is ∙ next-alike _ _ _ ∙ sym (next-named _ _ _);
+      due = c.next-a.ensures.is ∙ next_alike _ _ _ ∙ sym (next_named _ _ _);
       kept = c.next-a.ensures.kept;
       again = λ e. next_other e;
       part = no_part;
       by = refl;
       written = c.write_unit.ensures;
     } in
-    leaves-new (answered) (rw (eq-eqb _ 0 c.if-a-ne0.false)) _ c.write_place.ensures
+    leaves_new (answered) (rw (eq-eqb _ 0 c.if-a-ne0.false)) _ c.write_place.ensures

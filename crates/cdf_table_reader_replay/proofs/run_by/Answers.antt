@@ -6,7 +6,7 @@ use native.Mathlib.Omega.{arith}
 use lib.ListN.{length, get_or, length-drop, length-map}
 use Rattle.cdf_unit_table.proofs.Parts.{rest}
 use Rattle.cdf_reader_cursor.specs.declared.Cursor.{Cursor}
-use Rattle.cdf_reader_replay_spec.proofs.Replaying.{Running, long, begun, finished, ended-unknown, ended-all}
+use Rattle.cdf_reader_replay_spec.proofs.Replaying.{Running, long, begun, finished, ended_unknown, ended_all}
 use Rattle.cdf_table_reader_replay_spec.specs.Replay.{heard}
 use Rattle.cdf_table_reader_replay_spec.proofs.Turning.{goes, unheard, turned}
 use Rattle.cdf_table_reader_replay.proofs.run_by.Goals as goal
@@ -37,7 +37,7 @@ returns-then-not-is_shared c =
     let a = c.args in
     let inv = c.loop-k.invariant in
     let all = finished a.s.now (map heard a.calls.now) a.log.now inv
-    (ended-unknown a.s.now (map heard a.calls.now) a.log.now inv
+    (ended_unknown a.s.now (map heard a.calls.now) a.log.now inv
     (omega (arith, c.loop-k-test.true, length-map a.calls.now heard))
     (unheard a.calls.now c.loop-k.k (sym c.is_shared.ensures ∙ c.if-not-is_shared.true))) in
     record { count = all.0; written = all.1 }
@@ -72,5 +72,5 @@ returns c =
     let a = c.args in
     let inv = c.loop-k.invariant in
     let all = finished a.s.now (map heard a.calls.now) a.log.now inv
-    (ended-all a.s.now (map heard a.calls.now) a.log.now inv (omega (arith, c.loop-k-test.false, length-map a.calls.now heard))) in
+    (ended_all a.s.now (map heard a.calls.now) a.log.now inv (omega (arith, c.loop-k-test.false, length-map a.calls.now heard))) in
     record { count = all.0; written = all.1 }

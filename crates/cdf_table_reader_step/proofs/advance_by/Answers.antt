@@ -15,8 +15,8 @@ use Rattle.cdf_reader_cursor.specs.Outcomes.{outcome_reply}
 use Rattle.cdf_reader_cursor.specs.Entering.{entering}
 use Rattle.cdf_reader_cursor.specs.declared.Outcome.{Outcome}
 use Rattle.cdf_reader_advance.proofs.Standing.{before_is, from_is}
-use Rattle.cdf_reader_advance.proofs.Stepped.{refuses, leaves, at-end, at-incomplete, outside, inside-fault, no_room, following}
-use Rattle.cdf_reader_advance.proofs.Stepped.{enters-found, unit-within, fault-within}
+use Rattle.cdf_reader_advance.proofs.Stepped.{refuses, leaves, at_end_lem, at_incomplete, outside, inside_fault, no_room, following}
+use Rattle.cdf_reader_advance.proofs.Stepped.{enters_found, unit_within, fault_within}
 use Rattle.cdf_table_reader_step.proofs.advance_by.Goals as goal
 
 abbrev judge : List ℕ → Edition → ℕ → List ℕ → Judged
@@ -24,13 +24,13 @@ judge table edition = table_judge table (layout_of edition) false
 
 pub returns-then-left-eq0 : goal.returns-then-left-eq0
 returns-then-left-eq0 c =
-    let all = refuses _ _ _ _ _ c.refused.result c.refused.ensures (at-end _ _ _ _ _ c.close-left.ensures c.if-left-eq0.true) in
+    let all = refuses _ _ _ _ _ c.refused.result c.refused.ensures (at_end_lem _ _ _ _ _ c.close-left.ensures c.if-left-eq0.true) in
     record { is = all.0; kept = all.1 }
 
 pub returns-then-stop-at : goal.returns-then-stop-at
 returns-then-stop-at c =
     let all = refuses _ _ _ _ _ c.refused-then-stop-at.result c.refused-then-stop-at.ensures
-    (at-incomplete _ _ _ _ _ c.close-left.ensures c.if-left-eq0.false c.if-stop-at.true) in
+    (at_incomplete _ _ _ _ _ c.close-left.ensures c.if-left-eq0.false c.if-stop-at.true) in
     record { is = all.0; kept = all.1 }
 
 pub returns-then-not-is_inside : goal.returns-then-not-is_inside
@@ -44,14 +44,14 @@ pub overflow_add-broken : goal.overflow_add-broken
 overflow_add-broken c =
     let a = c.args in
     let lies = sym c.is_inside.ensures ∙ c.if-not-is_inside.false in
-    let w = fault-within (judge a.table.now a.edition) a.s.now a.c _ _ c.close-left.ensures c.if-left-eq0.false c.if-stop-at.false lies
+    let w = fault_within (judge a.table.now a.edition) a.s.now a.c _ _ c.close-left.ensures c.if-left-eq0.false c.if-stop-at.false lies
     (table_keeps a.table.now (layout_of a.edition) false) (sym c.table_judge.ensures ∙ c.in-Fault.is) in
     omega (arith, w)
 
 pub returns-in-Fault : goal.returns-in-Fault
 returns-in-Fault c =
     let all = refuses _ _ _ _ _ c.refused-in-Fault.result c.refused-in-Fault.ensures
-    (inside-fault _ _ _ _ _ c.close-left.ensures c.if-left-eq0.false c.if-stop-at.false (sym c.is_inside.ensures ∙ c.if-not-is_inside.false)
+    (inside_fault _ _ _ _ _ c.close-left.ensures c.if-left-eq0.false c.if-stop-at.false (sym c.is_inside.ensures ∙ c.if-not-is_inside.false)
     (sym c.table_judge.ensures ∙ c.in-Fault.is)) in
     record { is = all.0; kept = all.1 }
 
@@ -69,7 +69,7 @@ pub overflow_add-end : goal.overflow_add-end
 overflow_add-end c =
     let a = c.args in
     let lies = sym c.is_inside.ensures ∙ c.if-not-is_inside.false in
-    let w = unit-within (judge a.table.now a.edition) a.s.now a.c _ _ c.close-left.ensures c.if-left-eq0.false c.if-stop-at.false lies
+    let w = unit_within (judge a.table.now a.edition) a.s.now a.c _ _ c.close-left.ensures c.if-left-eq0.false c.if-stop-at.false lies
     (table_keeps a.table.now (layout_of a.edition) false) (sym c.table_judge.ensures ∙ c.in-Found.is) in
     omega (arith, w.1)
 
@@ -77,7 +77,7 @@ pub overflow_add-own_end : goal.overflow_add-own_end
 overflow_add-own_end c =
     let a = c.args in
     let lies = sym c.is_inside.ensures ∙ c.if-not-is_inside.false in
-    let w = unit-within (judge a.table.now a.edition) a.s.now a.c _ _ c.close-left.ensures c.if-left-eq0.false c.if-stop-at.false lies
+    let w = unit_within (judge a.table.now a.edition) a.s.now a.c _ _ c.close-left.ensures c.if-left-eq0.false c.if-stop-at.false lies
     (table_keeps a.table.now (layout_of a.edition) false) (sym c.table_judge.ensures ∙ c.in-Found.is) in
     omega (arith, w.0, w.1)
 
@@ -96,7 +96,7 @@ returns-else-not-has_room c =
     fits in
     let deep : c.close-left.result.count + 1 ≡ suc c.close-left.result.count = omega arith in record {
       is = ap outcome_reply c.enter.ensures
-          ∙ enters-found _ _ _ _ _ c.close-left.ensures c.if-left-eq0.false c.if-stop-at.false lies j _ before room _ _ deep
+          ∙ enters_found _ _ _ _ _ c.close-left.ensures c.if-left-eq0.false c.if-stop-at.false lies j _ before room _ _ deep
           (c.next_rank-rank.ensures ∙ from_is _ _ _ follow);
       kept = λ some. absurd (some (ap (λ (r : Outcome). r.number) c.enter.ensures));
     }

@@ -4,18 +4,18 @@ use mathlib.Core.Bool.{true}
 use borrow.Author.Rules.{rules}
 use borrow.Author.Tests.{not-true, not-false}
 use Rattle.cdf_unit_table.specs.States.{admits}
-use Rattle.cdf_unit_judge.proofs.Stages.{stopped, in_is, root-other, root-acts, root-found}
+use Rattle.cdf_unit_judge.proofs.Stages.{stopped, in_is, root_other, root_acts, root_found}
 use Rattle.cdf_unit_judge.proofs.judge_root.Goals as goal
 
 pub returns-then-not-is_root_kind : goal.returns-then-not-is_root_kind
 returns-then-not-is_root_kind c =
     let kind = c.is_root_kind in
-    root-other _ _ _ c.head.ensures c.in-Prefix.is
+    root_other _ _ _ c.head.ensures c.in-Prefix.is
     (sym kind.ensures ∙ not-true kind.result c.if-not-is_root_kind.true-raw)
 
 pub returns-then-action-ne-NONE : goal.returns-then-action-ne-NONE
 returns-then-action-ne-NONE c =
-    root-acts _ _ _ c.head.ensures c.in-Prefix.is
+    root_acts _ _ _ c.head.ensures c.in-Prefix.is
     (sym c.is_root_kind.ensures ∙ not-false c.is_root_kind.result c.if-not-is_root_kind.false-raw) c.if-action-ne-NONE.true
 
 pub returns-in-Stop : goal.returns-in-Stop
@@ -24,5 +24,5 @@ returns-in-Stop c = stopped _ _ _ _ c.head.ensures _ (admits true 0) c.in-Stop.i
 pub returns-else-action-ne-NONE : goal.returns-else-action-ne-NONE
 returns-else-action-ne-NONE c =
     rw (c.prefix-own.ensures.is, c.first_state-state.ensures)
-    (root-found _ _ _ c.head.ensures c.in-Prefix.is
+    (root_found _ _ _ c.head.ensures c.in-Prefix.is
     (sym c.is_root_kind.ensures ∙ not-false c.is_root_kind.result c.if-not-is_root_kind.false-raw) c.if-action-ne-NONE.false)

@@ -8,33 +8,33 @@ use borrow.Author.Rules.{rules}
 use Rattle.cdf_unit_table.proofs.Parts.{minus_one}
 use Rattle.cdf_unit_data.specs.Data.{name_by, spelled}
 use Rattle.cdf_unit_data.specs.Standing.{row_bytes}
-use Rattle.cdf_unit_data.proofs.Names.{front-short, name-none, name-is, name_by_lem}
+use Rattle.cdf_unit_data.proofs.Names.{front_short, name_none, name_is, name_by_lem}
 use Rattle.cdf_unit_name.proofs.name.Goals as goal
 
 pub returns-then-s-eq0 : goal.returns-then-s-eq0
-returns-then-s-eq0 c = name-none _ _ c.if-s-eq0.true
+returns-then-s-eq0 c = name_none _ _ c.if-s-eq0.true
 
 pub overflow_cast-count : goal.overflow_cast-count
 overflow_cast-count c = omega (arith, c.shared_slice_known-2-1.given 0)
 
 pub returns-then-count-lt1 : goal.returns-then-count-lt1
-returns-then-count-lt1 c = sym (name-is _ _ c.if-s-eq0.false _ refl ∙ rw (lt-leb 1 _ c.if-count-lt1.true))
+returns-then-count-lt1 c = sym (name_is _ _ c.if-s-eq0.false _ refl ∙ rw (lt-leb 1 _ c.if-count-lt1.true))
 
 pub returns-then-count-gt32 : goal.returns-then-count-gt32
 returns-then-count-gt32 c =
-    sym (name-is _ _ c.if-s-eq0.false _ refl ∙ rw (le-leb 1 _ c.if-count-lt1.false, lt-leb _ 32 c.if-count-gt32.true))
+    sym (name_is _ _ c.if-s-eq0.false _ refl ∙ rw (le-leb 1 _ c.if-count-lt1.false, lt-leb _ 32 c.if-count-gt32.true))
 
 pub returns-then-s-count : goal.returns-then-s-count
 returns-then-s-count c =
     sym
-    (name-is _ _ c.if-s-eq0.false _ refl
+    (name_is _ _ c.if-s-eq0.false _ refl
     ∙ rw (le-leb 1 _ c.if-count-lt1.false, le-leb _ 32 c.if-count-gt32.false, lt-leb _ _ c.if-s-count.true))
 
 pub overflow_add-bad : goal.overflow_add-bad
 overflow_add-bad c =
     let a = c.args in
     let s = a.s.now in
-    omega (arith, front-short (row_bytes a.row.now) (1 + get_or s 0 0 - 1) (drop 1 s), c.name_front-front.ensures)
+    omega (arith, front_short (row_bytes a.row.now) (1 + get_or s 0 0 - 1) (drop 1 s), c.name_front-front.ensures)
 
 pub returns-then-front-count : goal.returns-then-front-count
 unfolding spelled

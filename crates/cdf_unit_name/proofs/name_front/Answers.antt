@@ -5,15 +5,15 @@ use borrow.Author.Rules.{rules}
 use borrow.Author.Tests.{not-true, not-false}
 use lib.ListN.{length}
 use Rattle.cdf_unit_data.specs.Standing.{row_bytes}
-use Rattle.cdf_unit_data.proofs.Names.{Run, front-none, front-bad, begun, stopped, on, ended}
+use Rattle.cdf_unit_data.proofs.Names.{Run, front_none, front_bad, begun, stopped, on, ended}
 use Rattle.cdf_unit_name.proofs.name_front.Goals as goal
 
 pub returns-then-s-eq0 : goal.returns-then-s-eq0
-returns-then-s-eq0 c = front-none _ _ c.if-s-eq0.true
+returns-then-s-eq0 c = front_none _ _ c.if-s-eq0.true
 
 pub returns-then-not-is_first : goal.returns-then-not-is_first
 returns-then-not-is_first c =
-    front-bad _ _ c.if-s-eq0.false _ c.is_first.ensures (not-true c.is_first.result c.if-not-is_first.true-raw)
+    front_bad _ _ c.if-s-eq0.false _ c.is_first.ensures (not-true c.is_first.result c.if-not-is_first.true-raw)
 
 pub loop-i-init : goal.loop-i-init
 loop-i-init c =

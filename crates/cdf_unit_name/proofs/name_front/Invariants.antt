@@ -5,7 +5,7 @@ use borrow.Author.Rules.{rules}
 use borrow.Author.Tests.{not-true, not-false}
 use lib.ListN.{length}
 use Rattle.cdf_unit_data.specs.Standing.{row_bytes}
-use Rattle.cdf_unit_data.proofs.Names.{Run, front-none, front-bad, begun, stopped, on, ended}
+use Rattle.cdf_unit_data.proofs.Names.{Run, front_none, front_bad, begun, stopped, on, ended}
 use Rattle.cdf_unit_name.proofs.name_front.Given as goal
 
 abbrev pub invariant-loop-i : goal.invariant-loop-i

@@ -2,7 +2,7 @@
 use mathlib.Core.Path.{refl, ◌∙◌}
 use Rattle.cdf_unit_prefix.specs.Layout.{layout_of}
 use Rattle.cdf_reader_spec.specs.Calls.{previous_of}
-use Rattle.cdf_reader_spec.proofs.Replying.{previous-named}
+use Rattle.cdf_reader_spec.proofs.Replying.{previous_named}
 use Rattle.cdf_reader.proofs.Answering.{due, stays}
 use Rattle.cdf_reader.proofs.Place.previous.Goals as goal
 
@@ -11,6 +11,6 @@ returns c =
     let s = c.args.s.now in
     rw (← c.edition_of-edition.ensures) (record {
       is = due _ _ c.cursor-c.ensures _ _ c.answered.ensures (previous_of (layout_of c.edition_of-edition.result) s)
-          (c.call_at-o.ensures.is ∙ previous-named _ _ _);
+          (c.call_at-o.ensures.is ∙ previous_named _ _ _);
       kept = stays _ _ c.cursor-c.ensures _ _ c.answered.ensures (c.call_at-o.ensures.again refl);
     })
