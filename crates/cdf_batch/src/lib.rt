@@ -1,5 +1,4 @@
-// A whole person in one request (02, j): a lent list of unit requests is built, or nothing is. Both functions have the list, a slice of
-// structs, and are proved by walks of their code; what they call is not.
+// A whole person in one request (02, j): a lent list of unit requests is built, or nothing is.
 #![tactic(auto)]
 
 ghost use Rattle.std.specs.Prelude.{◌≡◌};

@@ -1,5 +1,4 @@
 -- The start of the parts, as one of the struct (proofs/Passed).
-use borrow.Author.Rules.{rules}
 use Rattle.cdf_builder_calls.specs.Replies.{no_parts}
 use Rattle.cdf_builder.proofs.Passed.{replied_by, kept}
 use Rattle.cdf_builder.proofs.start.Goals as goal

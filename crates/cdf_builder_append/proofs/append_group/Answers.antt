@@ -1,6 +1,5 @@
 -- The group, and then the lengths.
 use mathlib.Core.Path.{◌∙◌}
-use borrow.Author.Rules.{rules}
 use Rattle.cdf_builder_spec.specs.Calls.{write_of}
 use Rattle.cdf_builder_append.proofs.append_group.Goals as goal
 

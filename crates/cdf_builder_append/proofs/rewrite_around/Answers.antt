@@ -1,5 +1,4 @@
 -- By how many units are open (proofs/Lengths). `wrote1` to `wrote3` are the places after each length.
-use borrow.Author.Rules.{rules}
 use Rattle.cdf_builder_append.proofs.Lengths.{none, two, three, four}
 use Rattle.cdf_builder_append.proofs.rewrite_around.Goals as goal
 

@@ -1,5 +1,4 @@
 -- The length is what length_to answers.
-use borrow.Author.Rules.{rules}
 use Rattle.cdf_builder_append.proofs.write_open.Goals as goal
 
 pub returns : goal.returns

@@ -1,5 +1,4 @@
 -- The builder's ADD_STREAM at the place that the numbers are.
-use borrow.Author.Rules.{rules}
 use Rattle.cdf_builder_numbers.proofs.Told.{called}
 use Rattle.cdf_builder_c.proofs.cdf_build_add_stream.Goals as goal
 

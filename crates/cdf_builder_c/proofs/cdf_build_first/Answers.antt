@@ -1,6 +1,5 @@
 -- The builder's start, its place written as numbers.
 use mathlib.Core.Path.{ap, ◌∙◌}
-use borrow.Author.Rules.{rules}
 use Rattle.cdf_builder_numbers.specs.Numbers.{numbers_of}
 use Rattle.cdf_builder_numbers.proofs.Told.{written}
 use Rattle.cdf_builder_c.proofs.cdf_build_first.Goals as goal

@@ -1,5 +1,4 @@
 -- What is decided, and where that is 0, what is written (proofs/Calling).
-use borrow.Author.Rules.{rules}
 use Rattle.cdf_builder_spec.specs.Requests.{bytes_for}
 use Rattle.cdf_builder_calls.proofs.Calling.{refusing, writing}
 use Rattle.cdf_builder_calls.proofs.add_stream_as.Goals as goal

@@ -1,5 +1,4 @@
 -- What is decided, and where that is 0, what is written (proofs/Calling).
-use borrow.Author.Rules.{rules}
 use Rattle.cdf_builder_calls.proofs.Calling.{unit_bytes_lem, refusing, writing}
 use Rattle.cdf_builder_calls.proofs.next_as.Goals as goal
 

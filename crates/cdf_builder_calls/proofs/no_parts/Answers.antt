@@ -1,5 +1,4 @@
 -- Zeros alone.
-use borrow.Author.Rules.{rules}
 use Rattle.cdf_builder_calls.proofs.no_parts.Goals as goal
 
 pub returns : goal.returns

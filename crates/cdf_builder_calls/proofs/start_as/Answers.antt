@@ -1,6 +1,5 @@
 -- 6, 7, 12, and else the root's prefix (proofs/Calling).
 use mathlib.Core.Path.{refl, sym, ◌∙◌}
-use borrow.Author.Rules.{rules}
 use borrow.Author.Tests.{not-true, not-false}
 use Rattle.cdf_reader_spec.specs.Slots.{around_of, held_of}
 use Rattle.cdf_builder_spec.proofs.Replying.{start_zero, start_done}

@@ -1,7 +1,6 @@
 -- By whether there is room, and then by how many there are.
 use mathlib.Core.Path.{sym, ◌∙◌}
 use native.Mathlib.Omega.{arith}
-use borrow.Author.Rules.{rules}
 use Rattle.cdf_builder_copy.proofs.Onto.{onto_some, onto_none}
 use Rattle.cdf_builder_copy.proofs.copy.Goals as goal
 

@@ -1,6 +1,5 @@
 -- Eight stores at the front.
 use native.Mathlib.Omega.{arith}
-use borrow.Author.Rules.{rules}
 use lib.ListN.{length-set}
 use Rattle.cdf_builder_copy.proofs.Copying.{stored}
 use Rattle.cdf_builder_copy.proofs.copy_eight.Goals as goal

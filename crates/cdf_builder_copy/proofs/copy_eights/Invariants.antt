@@ -1,12 +1,7 @@
 -- The bytes before `at` are copied; the measure is what is left of them.
-use Prim.Native.Nat.{◌+◌, ◌-◌}
-use mathlib.Core.Path.{refl}
-use native.Mathlib.Omega.{arith}
-use borrow.Author.Rules.{rules}
-use borrow.Rule.Slice.PartMut.{put_mid}
+use Prim.Native.Nat.{◌-◌}
 use lib.ListN.{length}
-use Rattle.cdf_builder_copy.proofs.Lent.{enough}
-use Rattle.cdf_builder_copy.proofs.Copying.{Copied, copied_lent, copied_all}
+use Rattle.cdf_builder_copy.proofs.Copying.{Copied}
 use Rattle.cdf_builder_copy.proofs.copy_eights.Given as goal
 
 abbrev pub invariant-loop-at : goal.invariant-loop-at

@@ -2,8 +2,7 @@
 use Prim.Native.Nat.{◌-◌}
 use mathlib.Core.Path.{refl}
 use native.Mathlib.Omega.{arith}
-use lib.ListN.{length}
-use Rattle.cdf_builder_copy.proofs.Copying.{Copied, copied_one, copied_all}
+use Rattle.cdf_builder_copy.proofs.Copying.{copied_one, copied_all}
 use Rattle.cdf_builder_copy.proofs.copy_few.Goals as goal
 
 pub loop-i-init : goal.loop-i-init

@@ -1,9 +1,7 @@
 -- The first i bytes are copied; the measure is what is left of them.
 use Prim.Native.Nat.{◌-◌}
-use mathlib.Core.Path.{refl}
-use native.Mathlib.Omega.{arith}
 use lib.ListN.{length}
-use Rattle.cdf_builder_copy.proofs.Copying.{Copied, copied_one, copied_all}
+use Rattle.cdf_builder_copy.proofs.Copying.{Copied}
 use Rattle.cdf_builder_copy.proofs.copy_few.Given as goal
 
 abbrev pub invariant-loop-i : goal.invariant-loop-i

@@ -2,7 +2,6 @@
 use Prim.Native.Nat.{◌-◌}
 use mathlib.Core.Path.{refl}
 use native.Mathlib.Omega.{arith}
-use borrow.Author.Rules.{rules}
 use lib.ListN.{length}
 use Rattle.cdf_builder_copy.proofs.Copying.{Copied, copied_part, copied_lent, copied_all}
 use Rattle.cdf_builder_copy.proofs.copy_fours.Goals as goal

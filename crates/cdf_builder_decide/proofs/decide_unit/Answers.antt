@@ -1,14 +1,11 @@
 -- Each return by its law (proofs/Stages).
 use Prim.Native.Nat.{◌+◌, ◌<◌}
-use mathlib.Core.Path.{◌≡◌, refl, sym, ◌∙◌}
+use mathlib.Core.Path.{refl, sym, ◌∙◌}
 use mathlib.Core.Bool.{true}
 use native.Mathlib.Omega.{arith}
-use borrow.Author.Rules.{rules}
 use borrow.Author.Tests.{not-true, not-false}
 use lib.ListN.{length}
-use Rattle.cdf_unit_table.specs.Ids.{known}
 use Rattle.cdf_unit_prefix.specs.Layout.{layout_of}
-use Rattle.cdf_builder_spec.specs.Place.{fits}
 use Rattle.cdf_builder_spec.specs.Requests.{unit}
 use Rattle.cdf_builder_spec.specs.Slots.{placed}
 use Rattle.cdf_builder_decide.proofs.Stages.{declined, unfit, unknown, not_joined, wrong, Grows, grows, unit_grows, sum_fits}

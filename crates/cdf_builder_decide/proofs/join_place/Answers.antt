@@ -1,5 +1,4 @@
 -- What it asks of the parts.
-use borrow.Author.Rules.{rules}
 use Rattle.cdf_builder_decide.proofs.join_place.Goals as goal
 
 pub returns : goal.returns

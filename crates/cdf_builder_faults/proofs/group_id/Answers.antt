@@ -2,7 +2,6 @@
 use mathlib.Core.Path.{sym, ◌∙◌}
 use Prim.Native.Nat.{◌-◌}
 use native.Mathlib.Omega.{arith}
-use borrow.Author.Rules.{rules}
 use borrow.Author.Tests.{not-true, not-false}
 use Rattle.cdf_unit_prefix.specs.Layout.{id_at}
 use Rattle.cdf_builder_faults.proofs.Faults.{group_short, group_other, group_accepted, group_refused}

@@ -1,6 +1,5 @@
 -- Each return by its law (proofs/Faults).
 use mathlib.Core.Path.{sym, ◌∙◌}
-use borrow.Author.Rules.{rules}
 use Rattle.cdf_unit_table.proofs.Rows.{opens_by, leaf_by}
 use Rattle.cdf_builder_faults.proofs.Faults.{fault_action, fault_data, fault_leaf, fault_whole, fault_more}
 use Rattle.cdf_builder_faults.proofs.own_fault.Goals as goal

@@ -1,5 +1,4 @@
 -- 13, then 12.
-use borrow.Author.Rules.{rules}
 use borrow.Author.Tests.{lt-ltb, le-ltb}
 use Rattle.cdf_builder_spec.specs.Calls.{room}
 use Rattle.cdf_builder_faults.proofs.room.Goals as goal

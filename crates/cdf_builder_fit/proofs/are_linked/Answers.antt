@@ -1,6 +1,5 @@
 -- Each return by its law. A call is named by the unit that it asks: `innermost`, `third`, `second`, and `first`, the
 -- outermost.
-use borrow.Author.Rules.{rules}
 use Rattle.cdf_unit_prefix.specs.Layout.{layout_of}
 use Rattle.cdf_builder_fit.proofs.Parted.{single, double, triple, fourfold, no_other}
 use Rattle.cdf_builder_fit.proofs.are_linked.Goals as goal

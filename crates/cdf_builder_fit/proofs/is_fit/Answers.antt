@@ -1,6 +1,5 @@
 -- Each return by its law.
 use mathlib.Core.Path.{sym, ◌∙◌}
-use borrow.Author.Rules.{rules}
 use borrow.Author.Tests.{not-true, not-false}
 use Rattle.cdf_unit_prefix.specs.Layout.{layout_of}
 use Rattle.cdf_builder_fit.proofs.Parted.{written_not, limit_not, past_not, by_linked}

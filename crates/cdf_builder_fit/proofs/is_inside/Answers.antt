@@ -1,5 +1,4 @@
 -- The tests of the definition.
-use borrow.Author.Rules.{rules}
 use Rattle.cdf_builder_fit.proofs.is_inside.Goals as goal
 
 pub returns : goal.returns

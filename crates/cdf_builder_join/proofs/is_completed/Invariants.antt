@@ -1,11 +1,7 @@
 -- The loop keeps that the units left are complete exactly if all are.
-use mathlib.Core.Path.{◌≡◌, refl, sym, ◌∙◌}
-use native.Mathlib.Omega.{arith}
-use borrow.Author.Rules.{rules}
-use borrow.Author.Tests.{not-true, not-false}
+use mathlib.Core.Path.{◌≡◌}
 use Rattle.cdf_builder_spec.specs.Requests.{completed}
 use Rattle.cdf_builder_spec.specs.Slots.{units}
-use Rattle.cdf_builder_join.proofs.Joins.{completed_on, completed_not, completed_none}
 use Rattle.cdf_builder_join.proofs.is_completed.Given as goal
 
 abbrev pub invariant-loop-left : goal.invariant-loop-left

@@ -1,9 +1,7 @@
 -- The loop keeps `Going` (proofs/Joins); what is left falls with each turn.
 use mathlib.Core.Path.{refl, sym, ◌∙◌}
 use native.Mathlib.Omega.{arith}
-use borrow.Author.Rules.{rules}
-use Rattle.cdf_builder_spec.specs.Slots.{units}
-use Rattle.cdf_builder_join.proofs.Joins.{Going, begins, on, found, none}
+use Rattle.cdf_builder_join.proofs.Joins.{begins, on, found, none}
 use Rattle.cdf_builder_join.proofs.join.Goals as goal
 
 pub loop-left-init : goal.loop-left-init

@@ -1,9 +1,6 @@
 -- The loop keeps `Going` (proofs/Joins); what is left falls with each turn.
-use mathlib.Core.Path.{refl, sym, ◌∙◌}
-use native.Mathlib.Omega.{arith}
-use borrow.Author.Rules.{rules}
 use Rattle.cdf_builder_spec.specs.Slots.{units}
-use Rattle.cdf_builder_join.proofs.Joins.{Going, begins, on, found, none}
+use Rattle.cdf_builder_join.proofs.Joins.{Going}
 use Rattle.cdf_builder_join.proofs.join.Given as goal
 
 abbrev pub invariant-loop-left : goal.invariant-loop-left

@@ -1,5 +1,4 @@
 -- The builder's NEXT at the place that the numbers are.
-use borrow.Author.Rules.{rules}
 use Rattle.cdf_builder_numbers.proofs.Told.{called}
 use Rattle.cdf_builder_next_c.proofs.cdf_build_next.Goals as goal
 

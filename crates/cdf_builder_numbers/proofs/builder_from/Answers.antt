@@ -1,6 +1,5 @@
 -- Number by number.
 use mathlib.Core.Path.{refl}
-use borrow.Author.Rules.{rules}
 use Rattle.cdf_builder_numbers.proofs.builder_from.Goals as goal
 
 pub returns : goal.returns

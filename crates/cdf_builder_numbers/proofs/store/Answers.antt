@@ -1,6 +1,5 @@
 -- By whether the number is 0.
 use mathlib.Core.Path.{refl, sym}
-use borrow.Author.Rules.{rules}
 use borrow.Author.Tests.{eq-eqb, ne_eqb}
 use Rattle.cdf_builder_numbers.proofs.store.Goals as goal
 

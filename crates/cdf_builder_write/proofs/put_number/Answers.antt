@@ -1,7 +1,7 @@
 -- What is left of the number goes into the first i bytes; the measure is i.
 use mathlib.Core.Path.{refl}
 use native.Mathlib.Omega.{arith}
-use Rattle.cdf_builder_write.proofs.Fronts.{Numbered, numbered_more, numbered_all}
+use Rattle.cdf_builder_write.proofs.Fronts.{numbered_more, numbered_all}
 use Rattle.cdf_builder_write.proofs.put_number.Goals as goal
 
 pub loop-i-init : goal.loop-i-init

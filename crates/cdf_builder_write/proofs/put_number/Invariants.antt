@@ -1,7 +1,5 @@
 -- What is left of the number goes into the first i bytes; the measure is i.
-use mathlib.Core.Path.{refl}
-use native.Mathlib.Omega.{arith}
-use Rattle.cdf_builder_write.proofs.Fronts.{Numbered, numbered_more, numbered_all}
+use Rattle.cdf_builder_write.proofs.Fronts.{Numbered}
 use Rattle.cdf_builder_write.proofs.put_number.Given as goal
 
 abbrev pub invariant-loop-i : goal.invariant-loop-i

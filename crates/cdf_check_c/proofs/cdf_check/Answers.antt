@@ -1,7 +1,6 @@
 -- The case of the check's answer in document 01's numbers.
 use mathlib.Core.Path.{ap}
 use mathlib.Core.List.{[], ◌∷◌}
-use borrow.Author.Rules.{rules}
 use Rattle.cdf_unit_list.specs.Check.{Verdict}
 use Rattle.cdf_check.specs.Answers.{as_answer}
 use Rattle.cdf_check_c.proofs.cdf_check.Goals as goal

@@ -1,12 +1,10 @@
 -- The ids below the one in hand are in their entries.
 use Prim.Native.Nat.{◌-◌}
 use mathlib.Core.Path.{◌≡◌, sym, ◌∙◌}
-use mathlib.Core.Logic.{⊎_elim}
 use native.Mathlib.Omega.{arith}
-use borrow.Author.Rules.{rules}
 use Rattle.cdf_unit_table.specs.Ids.{ids_end}
 use Rattle.cdf_explain.specs.Parts.{mays_at}
-use Rattle.cdf_explain.proofs.Filling.{Filled, begun, taken, passed, none_stands}
+use Rattle.cdf_explain.proofs.Filling.{begun, taken, passed, none_stands}
 use Rattle.cdf_explain.proofs.admitted.Goals as goal
 use Rattle.cdf_explain.proofs.admitted.Goals.{then-may_stand, else-may_stand}
 

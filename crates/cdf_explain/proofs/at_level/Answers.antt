@@ -1,5 +1,4 @@
 -- By the count.
-use borrow.Author.Rules.{rules}
 use borrow.Author.Tests.{eq-eqb, ne_eqb, lt-ltb, le-ltb}
 use Rattle.cdf_explain.proofs.at_level.Goals as goal
 

@@ -1,20 +1,14 @@
 -- The loop ends, since each unit comes further. `done` is where the number is known not to be 0.
-use Prim.Native.Nat.{ℕ, ◌≤◌}
-use mathlib.Core.Path.{◌≡◌, refl, ap, sym, ◌∙◌}
-use mathlib.Core.List.{List, [], ◌∷◌}
-use borrow.Author.Rules.{rules}
+use Prim.Native.Nat.{◌≤◌}
+use mathlib.Core.Path.{◌≡◌}
+use mathlib.Core.List.{List}
 use lib.ListN.{length}
-use Rattle.cdf_unit_prefix.specs.Layout.{Layout, layout_of}
+use Rattle.cdf_unit_prefix.specs.Layout.{layout_of}
 use Rattle.cdf_unit_data.specs.Standing.{name_row}
 use Rattle.cdf_unit_list.specs.declared.Unit.{Unit}
-use Rattle.cdf_reader_spec.specs.Calls.{next_of}
-use Rattle.cdf_reader_cursor.specs.Outcomes.{cursor_place, outcome_reply}
-use Rattle.cdf_reader_advance.proofs.Steady.{advances_by}
-use Rattle.cdf_reader_runs.proofs.Looping.{Going, begun, Turn, turned, over}
-use Rattle.cdf_reader_runs.proofs.Further.{first_later, next_later, ahead, less}
-use Rattle.cdf_explain.specs.Numbers.{explained_by}
-use Rattle.cdf_explain.specs.Parts.{told_at}
-use Rattle.cdf_explain.proofs.Explaining.{Told, told_end, closed_few}
+use Rattle.cdf_reader_cursor.specs.Outcomes.{outcome_reply}
+use Rattle.cdf_reader_runs.proofs.Looping.{Going}
+use Rattle.cdf_reader_runs.proofs.Further.{ahead}
 use Rattle.cdf_explain.proofs.explain.Given as goal
 
 abbrev pub invariant-loop-a : goal.invariant-loop-a

@@ -1,5 +1,4 @@
 -- As a root where none is open.
-use borrow.Author.Rules.{rules}
 use borrow.Author.Tests.{eq-eqb, ne_eqb}
 use Rattle.cdf_explain.proofs.may_stand.Goals as goal
 

@@ -1,5 +1,4 @@
 -- Level by level: `u1` to `u4` are where the ids of the units are known, `l1` to `l4` where the units are.
-use borrow.Author.Rules.{rules}
 use Rattle.cdf_explain.proofs.Levels.{told_at_lem}
 use Rattle.cdf_explain.proofs.tell.Goals as goal
 

@@ -1,7 +1,6 @@
 -- The number and the length of what write_listing answers.
 use mathlib.Core.Path.{ap}
 use mathlib.Core.List.{[], ◌∷◌}
-use borrow.Author.Rules.{rules}
 use Rattle.cdf_listing.specs.declared.Written.{Written}
 use Rattle.cdf_listing_c.proofs.cdf_listing.Goals as goal
 

@@ -1,5 +1,4 @@
 -- By the unit that the start hands out.
-use borrow.Author.Rules.{rules}
 use Rattle.cdf_reader.specs.View.{reply_of}
 use Rattle.cdf_lookup_search.proofs.Rooted.{group_is}
 use Rattle.cdf_lookup.proofs.is_group.Goals as goal

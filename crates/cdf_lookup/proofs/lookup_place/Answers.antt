@@ -1,6 +1,5 @@
 -- By the stages of the definition: both checks, the roots, and then the values.
 use mathlib.Core.Path.{◌≡◌, refl, ◌∙◌}
-use Rattle.cdf_unit_prefix.specs.Layout.{layout_for}
 use Rattle.cdf_check.proofs.Exact.{bytes_of}
 use Rattle.cdf_lookup_spec.specs.Find.{query, refusal, or_else}
 use Rattle.cdf_lookup.specs.Answers.{due}

@@ -1,6 +1,5 @@
 -- The number of what lookup_place answers, and its four entries.
 use mathlib.Core.Path.{ap}
-use borrow.Author.Rules.{rules}
 use Rattle.cdf_lookup_spec.specs.declared.Lookup.{Lookup}
 use Rattle.cdf_lookup_c.specs.Answer.{answer_of}
 use Rattle.cdf_lookup_c.proofs.cdf_lookup.Goals as goal

@@ -1,6 +1,5 @@
 -- The id, and then the bytes behind the prefix.
 use borrow.Author.Tests.{eq-eqb, ne_eqb}
-use borrow.Author.Rules.{rules}
 use Rattle.cdf_lookup_spec.specs.Find.{reads}
 use Rattle.cdf_lookup_search.proofs.holds.Goals as goal
 

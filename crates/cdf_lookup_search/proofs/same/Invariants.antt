@@ -1,9 +1,7 @@
 -- Up to i the bytes are alike.
 use Prim.Native.Nat.{◌-◌}
-use mathlib.Core.Path.{refl, sym}
-use native.Mathlib.Omega.{arith}
 use lib.ListN.{length}
-use Rattle.cdf_lookup_search.proofs.Comparing.{unequal, Alike, differs, alike_on, alike_whole}
+use Rattle.cdf_lookup_search.proofs.Comparing.{Alike}
 use Rattle.cdf_lookup_search.proofs.same.Given as goal
 
 abbrev pub invariant-loop-i : goal.invariant-loop-i

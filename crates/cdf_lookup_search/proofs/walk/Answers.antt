@@ -1,6 +1,5 @@
 -- The units are folded as they come, and what was found lies in the bytes.
 use mathlib.Core.Path.{◌≡◌, refl, sym, ◌∙◌}
-use borrow.Author.Tests.{not-false}
 use lib.ListN.{length}
 use Rattle.cdf_unit_prefix.specs.Layout.{layout_of}
 use Rattle.cdf_unit_data.specs.Standing.{name_row}

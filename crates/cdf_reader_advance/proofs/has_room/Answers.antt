@@ -1,5 +1,4 @@
 -- By whether the id's unit admits others.
-use borrow.Author.Rules.{rules}
 use Rattle.cdf_unit_table.proofs.Rows.{opens_by, leaf_by}
 use Rattle.cdf_reader_advance.proofs.has_room.Goals as goal
 

@@ -1,8 +1,8 @@
 -- Each return by its law (cdf_reader_advance/proofs/Stepped), which wants what is known at its place of the code: `lies` past the test of
 -- the part, `j` past the judge, `before` past the rank before, and `room` past the test of room.
-use Prim.Native.Nat.{ℕ, suc, ◌+◌, ◌≤◌, ◌<◌}
+use Prim.Native.Nat.{ℕ, suc, ◌+◌, ◌<◌}
 use mathlib.Core.Path.{◌≡◌, sym, ap, ◌∙◌}
-use mathlib.Core.Bool.{true, false}
+use mathlib.Core.Bool.{false}
 use mathlib.Core.List.{List}
 use native.Mathlib.Omega.{arith}
 use lib.ListN.{length}

@@ -1,5 +1,4 @@
 -- The call by its name.
-use borrow.Author.Rules.{rules}
 use Rattle.cdf_reader_c.proofs.cdf_previous.Goals as goal
 
 pub returns : goal.returns

@@ -1,6 +1,5 @@
 -- The answer and the part are written, and then the place, or it stays (proofs/Calling).
 use mathlib.Core.Path.{sym, ap, ◌∙◌}
-use borrow.Author.Rules.{rules}
 use Rattle.cdf_reader_spec.specs.Calls.{Reply}
 use Rattle.cdf_reader_numbers.proofs.Calling.{take_within, Answered, leaves_old, leaves_new}
 use Rattle.cdf_reader_call_numbers.proofs.answer_to.Goals as goal

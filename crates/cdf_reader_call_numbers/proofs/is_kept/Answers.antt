@@ -1,5 +1,4 @@
 -- By the call.
-use borrow.Author.Rules.{rules}
 use Rattle.cdf_reader_call_numbers.proofs.is_kept.Goals as goal
 
 pub returns-in-Start : goal.returns-in-Start

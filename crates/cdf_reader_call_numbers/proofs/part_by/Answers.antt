@@ -1,6 +1,5 @@
 -- Two tests; the length is promised not to wrap.
 use mathlib.Core.Path.{sym, ◌∙◌}
-use borrow.Author.Rules.{rules}
 use borrow.Author.Tests.{eq-eqb, ne_eqb, not-true, not-false}
 use Rattle.cdf_reader_call_numbers.proofs.part_by.Goals as goal
 

@@ -1,5 +1,4 @@
 -- By the count.
-use borrow.Author.Rules.{rules}
 use borrow.Author.Tests.{eq-eqb, ne_eqb}
 use Rattle.cdf_reader_close.proofs.around.Goals as goal
 

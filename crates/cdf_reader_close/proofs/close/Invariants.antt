@@ -1,10 +1,6 @@
 -- The loop keeps `Going` (proofs/Closings); what is left falls with each turn.
-use mathlib.Core.Path.{refl, sym, ◌∙◌}
-use native.Mathlib.Omega.{arith}
-use borrow.Author.Rules.{rules}
-use borrow.Author.Tests.{not-true, not-false}
 use Rattle.cdf_reader_spec.specs.Slots.{open_units}
-use Rattle.cdf_reader_close.proofs.Closings.{Going, stopped, on}
+use Rattle.cdf_reader_close.proofs.Closings.{Going}
 use Rattle.cdf_reader_close.proofs.close.Given as goal
 
 abbrev pub invariant-loop-left : goal.invariant-loop-left

@@ -1,5 +1,4 @@
 -- Zeros alone.
-use borrow.Author.Rules.{rules}
 use Rattle.cdf_reader_cursor.proofs.no_cursor.Goals as goal
 
 pub returns : goal.returns

@@ -1,6 +1,5 @@
 -- The place past the unit (proofs/Passed).
 use mathlib.Core.Path.{ap, ◌∙◌}
-use borrow.Author.Rules.{rules}
 use Rattle.cdf_unit_list.specs.Stack.{with_state}
 use Rattle.cdf_reader_cursor.specs.Outcomes.{outcome_reply}
 use Rattle.cdf_reader_cursor.proofs.Passed.{passed_is}

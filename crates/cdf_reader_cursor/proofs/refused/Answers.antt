@@ -1,5 +1,4 @@
 -- The unit is one of zeros.
-use borrow.Author.Rules.{rules}
 use Rattle.cdf_reader_cursor.proofs.refused.Goals as goal
 
 pub returns : goal.returns

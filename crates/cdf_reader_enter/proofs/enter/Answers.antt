@@ -1,7 +1,6 @@
 -- Each return by its law (proofs/Entered), by the unit's first state and how many units are left open. `first` is the place
 -- past that state, `ranked` the one past the rank of the innermost unit that is left.
 use mathlib.Core.Path.{sym, ◌∙◌}
-use borrow.Author.Rules.{rules}
 use Rattle.cdf_unit_list.specs.Stack.{with_state}
 use Rattle.cdf_reader_cursor.proofs.Entered.{none, one, two, more}
 use Rattle.cdf_reader_enter.proofs.enter.Goals as goal

@@ -1,6 +1,5 @@
 -- Each return by its law.
 use mathlib.Core.Path.{sym, ◌∙◌}
-use borrow.Author.Rules.{rules}
 use borrow.Author.Tests.{not-true, not-false}
 use Rattle.cdf_unit_prefix.specs.Layout.{layout_of}
 use Rattle.cdf_reader_fit.proofs.Parted.{past_not, end_not, bounds_not, last_not, ranks_not, by_chain}

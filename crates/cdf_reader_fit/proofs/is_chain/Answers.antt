@@ -1,6 +1,5 @@
 -- Each return by its law, given the units that were found to hold.
 use mathlib.Core.Path.{sym, ◌∙◌}
-use borrow.Author.Rules.{rules}
 use borrow.Author.Tests.{not-true, not-false}
 use Rattle.cdf_unit_prefix.specs.Layout.{layout_of}
 use Rattle.cdf_reader_fit.proofs.Chains.{single, first_not, double, second_not, triple, third_not, fourfold, too_many}

@@ -1,5 +1,4 @@
 -- Each test against the quotient, then by the count (proofs/Lows).
-use borrow.Author.Rules.{rules}
 use Rattle.cdf_reader_fit.proofs.Lows.{all_low}
 use Rattle.cdf_reader_fit.proofs.is_ranked.Goals as goal
 

@@ -1,5 +1,4 @@
 -- By the edition.
-use borrow.Author.Rules.{rules}
 use Rattle.cdf_reader_fit.proofs.most_rank.Goals as goal
 
 pub returns-in-First : goal.returns-in-First

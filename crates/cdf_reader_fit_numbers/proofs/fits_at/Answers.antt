@@ -3,7 +3,6 @@ use mathlib.Core.Path.{sym, ◌∙◌}
 use borrow.Author.Tests.{not-true, not-false}
 use Rattle.cdf_reader_numbers.specs.Numbers.{place_from}
 use Rattle.cdf_reader_fit_numbers.proofs.Fitted.{not_past, not_in, not_last, not_ranked, by_held}
-use borrow.Author.Rules.{rules}
 use Rattle.cdf_reader_fit_numbers.proofs.fits_at.Goals as goal
 
 pub returns-then-not-is_past : goal.returns-then-not-is_past

@@ -4,7 +4,6 @@ use Rattle.cdf_unit_prefix.specs.Layout.{layout_of}
 use Rattle.cdf_reader_numbers.specs.Numbers.{place_from}
 use Rattle.cdf_reader_open_numbers.specs.Held.{held}
 use Rattle.cdf_reader_open_numbers.proofs.Holding.{other}
-use borrow.Author.Rules.{rules}
 use Rattle.cdf_reader_fit_numbers.proofs.holds.Goals as goal
 
 pub returns-then-count-eq1 : goal.returns-then-count-eq1

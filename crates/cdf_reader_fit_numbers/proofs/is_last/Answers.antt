@@ -1,6 +1,5 @@
 -- By the flag.
 use borrow.Author.Tests.{eq-eqb, ne_eqb}
-use borrow.Author.Rules.{rules}
 use Rattle.cdf_reader_fit_numbers.proofs.is_last.Goals as goal
 
 pub returns-then-p-eq0 : goal.returns-then-p-eq0

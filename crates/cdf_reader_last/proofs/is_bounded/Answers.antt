@@ -1,5 +1,4 @@
 -- The tests of the definition.
-use borrow.Author.Rules.{rules}
 use Rattle.cdf_reader_last.proofs.is_bounded.Goals as goal
 
 pub returns : goal.returns

@@ -1,5 +1,4 @@
 -- By the flag, then the tests of the definition.
-use borrow.Author.Rules.{rules}
 use Rattle.cdf_reader_last.proofs.is_skippable.Goals as goal
 
 pub returns-then-not-fresh : goal.returns-then-not-fresh

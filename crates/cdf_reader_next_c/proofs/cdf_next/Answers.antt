@@ -1,6 +1,5 @@
 -- Each return by its law (proofs/Calling): 11, 2, and else a step.
 use mathlib.Core.Path.{sym, ◌∙◌}
-use borrow.Author.Rules.{rules}
 use borrow.Author.Tests.{not-true, not-false}
 use Rattle.cdf_reader_next_c.proofs.Calling.{empty, no_fit, steps}
 use Rattle.cdf_reader_next_c.proofs.cdf_next.Goals as goal

@@ -1,5 +1,4 @@
 -- The numbers, with the flag as a number.
-use borrow.Author.Rules.{rules}
 use Rattle.cdf_reader_numbers.proofs.write_place.Goals as goal
 
 pub returns : goal.returns

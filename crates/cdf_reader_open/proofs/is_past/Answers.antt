@@ -2,7 +2,6 @@
 use Prim.Native.Nat.{◌+◌}
 use mathlib.Core.Path.{sym}
 use native.Mathlib.Omega.{arith}
-use borrow.Author.Rules.{rules}
 use borrow.Author.Tests.{lt-leb}
 use Rattle.cdf_reader_open.proofs.Differences.{taken_off}
 use Rattle.cdf_reader_open.proofs.is_past.Goals as goal

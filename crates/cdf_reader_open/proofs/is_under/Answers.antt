@@ -1,5 +1,4 @@
 -- The tests of the definition, in its order.
-use borrow.Author.Rules.{rules}
 use borrow.Author.Tests.{not-true, not-false}
 use Rattle.cdf_reader_open.proofs.is_under.Goals as goal
 

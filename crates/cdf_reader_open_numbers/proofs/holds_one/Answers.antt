@@ -1,5 +1,4 @@
 -- The root, then its rank.
-use borrow.Author.Rules.{rules}
 use Rattle.cdf_reader_numbers.specs.Numbers.{place_from}
 use Rattle.cdf_reader_open_numbers.proofs.Holding.{one}
 use Rattle.cdf_reader_open_numbers.proofs.holds_one.Goals as goal

@@ -4,7 +4,6 @@ use borrow.Author.Tests.{not-true, not-false}
 use Rattle.cdf_unit_prefix.specs.Layout.{layout_of}
 use Rattle.cdf_reader_numbers.specs.Numbers.{place_from}
 use Rattle.cdf_reader_open_numbers.proofs.Holding.{three}
-use borrow.Author.Rules.{rules}
 use Rattle.cdf_reader_open_numbers.proofs.holds_three.Goals as goal
 
 pub returns-then-not-is_triple : goal.returns-then-not-is_triple

@@ -1,5 +1,4 @@
 -- The replay's two numbers as they cross to C.
-use borrow.Author.Rules.{rules}
 use Rattle.cdf_reader_replay_c.proofs.cdf_replay.Goals as goal
 
 pub returns : goal.returns

@@ -1,5 +1,4 @@
 -- A start needs no place.
-use borrow.Author.Rules.{rules}
 use Rattle.cdf_reader_step.proofs.is_ready.Goals as goal
 
 pub returns-then-is_start : goal.returns-then-is_start

@@ -1,6 +1,5 @@
 -- By the turn: a refusal, or the unit is entered (proofs/Leaving).
 use mathlib.Core.Path.{ap, ◌∙◌}
-use borrow.Author.Rules.{rules}
 use Rattle.cdf_unit_prefix.specs.Layout.{layout_of}
 use Rattle.cdf_reader.specs.Cursors.{cursor_of}
 use Rattle.cdf_reader_step_numbers.proofs.Leaving.{refused, handed}

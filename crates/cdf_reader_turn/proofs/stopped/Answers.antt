@@ -1,6 +1,5 @@
 -- The two as they are given.
 use mathlib.Core.Path.{refl}
-use borrow.Author.Rules.{rules}
 use Rattle.cdf_reader_turn.proofs.stopped.Goals as goal
 
 pub returns : goal.returns

@@ -1,8 +1,8 @@
 -- Each return by its law (cdf_reader_advance/proofs/Stepped), which wants what is known at its place of the code: `lies` past the test of
 -- the part, `j` past the judge, `before` past the rank before, and `room` past the test of room.
-use Prim.Native.Nat.{ℕ, suc, ◌+◌, ◌≤◌, ◌<◌}
+use Prim.Native.Nat.{ℕ, suc, ◌+◌, ◌<◌}
 use mathlib.Core.Path.{◌≡◌, sym, ap, ◌∙◌}
-use mathlib.Core.Bool.{true, false}
+use mathlib.Core.Bool.{false}
 use mathlib.Core.List.{List}
 use native.Mathlib.Omega.{arith}
 use lib.ListN.{length}
@@ -13,11 +13,9 @@ use Rattle.cdf_unit_judge.specs.Judge.{judge_of}
 use Rattle.cdf_unit_judge.specs.declared.Judged.{Judged}
 use Rattle.cdf_unit_judge.proofs.Keeping.{in_keeps}
 use Rattle.cdf_unit_judge.proofs.Faults.{told}
-use Rattle.cdf_reader_cursor.specs.Outcomes.{cursor_place}
-use Rattle.cdf_reader_advance.specs.Advancing.{is_inside, rank_on}
 use Rattle.cdf_reader_advance.proofs.Standing.{before_is, from_is}
-use Rattle.cdf_reader_advance.proofs.Stepped.{leaves, at_end_lem, at_incomplete, outside, inside_fault, no_room, following, slots}
-use Rattle.cdf_reader_advance.proofs.Stepped.{enters_found, within, unit_within, fault_within}
+use Rattle.cdf_reader_advance.proofs.Stepped.{leaves, at_end_lem, at_incomplete, outside, inside_fault, no_room, following}
+use Rattle.cdf_reader_advance.proofs.Stepped.{enters_found, unit_within, fault_within}
 use Rattle.cdf_reader_turn.proofs.Stopping.{stops}
 use Rattle.cdf_reader_turn.proofs.turn.Goals as goal
 

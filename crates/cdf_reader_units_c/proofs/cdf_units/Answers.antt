@@ -1,5 +1,4 @@
 -- The list is filled and the answer written, and then the place, or it stays (proofs/Leaving).
-use borrow.Author.Rules.{rules}
 use Rattle.cdf_reader_units_c.proofs.Leaving.{leaves_old, leaves_new}
 use Rattle.cdf_reader_units_c.proofs.cdf_units.Goals as goal
 

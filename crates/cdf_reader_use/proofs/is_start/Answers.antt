@@ -1,5 +1,4 @@
 -- By the variant.
-use borrow.Author.Rules.{rules}
 use Rattle.cdf_reader_use.proofs.is_start.Goals as goal
 
 pub returns-in-Start : goal.returns-in-Start

@@ -1,5 +1,4 @@
 -- The tests of the definition, in its order.
-use borrow.Author.Rules.{rules}
 use borrow.Author.Tests.{not-true, not-false, eq-eqb, ne_eqb}
 use Rattle.cdf_unit_table.specs.States.{opens}
 use Rattle.cdf_reader_use.proofs.may_pass.Goals as goal

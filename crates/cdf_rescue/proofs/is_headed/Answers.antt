@@ -1,7 +1,6 @@
 -- By what head tells, and whether an E/R group takes the unit.
 use mathlib.Core.Path.{ap, sym, ◌∙◌}
 use mathlib.Core.Bool.{not}
-use borrow.Author.Rules.{rules}
 use lib.Dec.{eqb}
 use Rattle.cdf_unit_table.specs.States.{nothing}
 use Rattle.cdf_rescue.specs.Parts.{is_headed}

@@ -3,11 +3,8 @@ use Prim.Native.Nat.{◌-◌}
 use mathlib.Core.Path.{sym, ◌∙◌}
 use mathlib.Core.Logic.{inl, inr}
 use native.Mathlib.Omega.{arith}
-use borrow.Author.Rules.{rules}
-use lib.ListN.{length}
-use Rattle.cdf_unit_prefix.specs.Layout.{layout_of}
 use Rattle.cdf_unit_table.proofs.Parts.{rest}
-use Rattle.cdf_rescue.proofs.Spans.{Kept, kept_none, kept_on, kept_all}
+use Rattle.cdf_rescue.proofs.Spans.{kept_none, kept_on, kept_all}
 use Rattle.cdf_rescue.proofs.last_whole.Goals as goal
 
 pub loop-at-init : goal.loop-at-init

@@ -2,15 +2,13 @@
 use Prim.Native.Nat.{ℕ, ◌-◌}
 use mathlib.Core.Path.{◌≡◌, sym, ap, ◌∙◌}
 use mathlib.Core.List.{List}
-use mathlib.Core.Logic.{inl, inr, ⊎_elim}
+use mathlib.Core.Logic.{inl, inr}
 use native.Mathlib.Omega.{arith}
-use borrow.Author.Rules.{rules}
-use lib.ListN.{length, get_or, drop}
+use lib.ListN.{get_or, drop}
 use lib.Seq.{get_or-drop}
-use Rattle.cdf_unit_prefix.specs.Layout.{layout_of}
 use Rattle.cdf_unit_table.proofs.Parts.{rest}
 use Rattle.cdf_rescue.proofs.Units.{none_headed, none_marked}
-use Rattle.cdf_rescue.proofs.Spans.{Passed, passed_none, passed_on, passed_all}
+use Rattle.cdf_rescue.proofs.Spans.{passed_none, passed_on, passed_all}
 use Rattle.cdf_rescue.proofs.next_whole.Goals as goal
 use Rattle.cdf_rescue.proofs.next_whole.Goals.{then-s-at+then-is_headed+else-whole_at-ne0, then-s-at+else-is_headed, else-s-at}
 

@@ -2,10 +2,7 @@
 use Prim.Native.Nat.{◌-◌, ◌<◌}
 use mathlib.Core.Path.{refl}
 use native.Mathlib.Omega.{arith}
-use borrow.Author.Rules.{rules}
-use lib.ListN.{length}
-use Rattle.cdf_unit_prefix.specs.Layout.{layout_of}
-use Rattle.cdf_rescue.proofs.Scanning.{Scanning, scan_begun, later, scan_on, scan_many, scan_all}
+use Rattle.cdf_rescue.proofs.Scanning.{scan_begun, later, scan_on, scan_many, scan_all}
 use Rattle.cdf_rescue.proofs.scan.Goals as goal
 
 pub last_whole-at-requires : goal.last_whole-at-requires

@@ -1,11 +1,8 @@
 -- The loop's invariant is proofs/Scanning's.
-use Prim.Native.Nat.{◌-◌, ◌<◌}
-use mathlib.Core.Path.{refl}
-use native.Mathlib.Omega.{arith}
-use borrow.Author.Rules.{rules}
+use Prim.Native.Nat.{◌-◌}
 use lib.ListN.{length}
 use Rattle.cdf_unit_prefix.specs.Layout.{layout_of}
-use Rattle.cdf_rescue.proofs.Scanning.{Scanning, scan_begun, later, scan_on, scan_many, scan_all}
+use Rattle.cdf_rescue.proofs.Scanning.{Scanning}
 use Rattle.cdf_rescue.proofs.scan.Given as goal
 
 abbrev pub invariant-loop-at : goal.invariant-loop-at

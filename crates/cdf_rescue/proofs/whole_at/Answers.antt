@@ -1,7 +1,6 @@
 -- By what its prefix and the check tell of the unit at the front.
 use mathlib.Core.Path.{sym, ◌∙◌}
 use native.Mathlib.Omega.{arith}
-use borrow.Author.Rules.{rules}
 use Rattle.cdf_unit_table.specs.States.{nothing}
 use Rattle.cdf_rescue.proofs.Units.{none_headed, none_checked, whole_within, whole_checked}
 use Rattle.cdf_rescue.proofs.whole_at.Goals as goal

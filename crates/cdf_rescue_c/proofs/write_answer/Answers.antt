@@ -2,7 +2,7 @@
 use Prim.Native.Nat.{◌-◌}
 use native.Mathlib.Omega.{arith}
 use borrow.Author.Rules.{rules}
-use Rattle.cdf_rescue_c.proofs.Writing.{Writing, begun, on, done}
+use Rattle.cdf_rescue_c.proofs.Writing.{begun, on, done}
 use Rattle.cdf_rescue_c.proofs.write_answer.Goals as goal
 
 pub bounds-answer-0 : goal.bounds-answer-0

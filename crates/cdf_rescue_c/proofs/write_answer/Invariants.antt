@@ -1,8 +1,6 @@
 -- The loop's invariant is proofs/Writing's.
 use Prim.Native.Nat.{◌-◌}
-use native.Mathlib.Omega.{arith}
-use borrow.Author.Rules.{rules}
-use Rattle.cdf_rescue_c.proofs.Writing.{Writing, begun, on, done}
+use Rattle.cdf_rescue_c.proofs.Writing.{Writing}
 use Rattle.cdf_rescue_c.proofs.write_answer.Given as goal
 
 abbrev pub invariant-loop-i : goal.invariant-loop-i

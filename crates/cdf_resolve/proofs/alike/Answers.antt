@@ -1,6 +1,4 @@
 -- The numbers, and then the names.
-use borrow.Author.Rules.{rules}
-use borrow.Author.Tests.{not-true, not-false}
 use Rattle.cdf_resolve_spec.specs.Pass.{alike_at}
 use Rattle.cdf_resolve.proofs.alike.Goals as goal
 
@@ -8,10 +6,10 @@ pub returns-then-not-same : goal.returns-then-not-same
 unfolding alike_at
 returns-then-not-same c =
     let width = c.requires.0 in
-    rw (← width, ← c.same.ensures, not-true c.same.result c.if-not-same.true-raw)
+    rw (← width, ← c.same.ensures, c.if-not-same.true)
 
 pub returns : goal.returns
 unfolding alike_at
 returns c =
     let width = c.requires.0 in
-    rw (← width, ← c.same.ensures, not-false c.same.result c.if-not-same.false-raw, ← c.same-2.ensures)
+    rw (← width, ← c.same.ensures, c.if-not-same.false, ← c.same-2.ensures)

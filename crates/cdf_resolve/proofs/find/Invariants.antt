@@ -1,10 +1,7 @@
 -- Up to i none is alike.
 use Prim.Native.Nat.{◌-◌, ◌≤◌}
-use mathlib.Core.Path.{◌≡◌, sym, ◌∙◌}
-use native.Mathlib.Omega.{arith}
-use borrow.Author.Rules.{rules}
 use Rattle.cdf_unit_prefix.specs.Layout.{layout_for}
-use Rattle.cdf_resolve.proofs.Finding.{Unlike, unlike_on}
+use Rattle.cdf_resolve.proofs.Finding.{Unlike}
 use Rattle.cdf_resolve.proofs.find.Given as goal
 
 abbrev pub invariant-loop-i : goal.invariant-loop-i

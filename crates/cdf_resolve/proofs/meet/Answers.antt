@@ -1,6 +1,5 @@
 -- By the id behind it, and its own.
 use mathlib.Core.Logic.{inl, inr}
-use borrow.Author.Rules.{rules}
 use Rattle.cdf_resolve.proofs.Walking.{add_ranks, meet_none, meet_template, meet_key, meet_other}
 use Rattle.cdf_resolve.proofs.meet.Goals as goal
 

@@ -1,6 +1,5 @@
 -- The answer's numbers as they cross to C.
 use mathlib.Core.Path.{ap}
-use borrow.Author.Rules.{rules}
 use Rattle.cdf_resolve_spec.specs.declared.Resolved.{Resolved}
 use Rattle.cdf_resolve_c.specs.Answer.{answer_of}
 use Rattle.cdf_resolve_c.proofs.cdf_resolve.Goals as goal

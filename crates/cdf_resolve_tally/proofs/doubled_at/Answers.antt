@@ -1,5 +1,4 @@
 -- By what was met before.
-use borrow.Author.Rules.{rules}
 use Rattle.cdf_resolve_spec.specs.Pass.{doubled_at}
 use Rattle.cdf_resolve_tally.proofs.doubled_at.Goals as goal
 

@@ -1,5 +1,4 @@
 -- By what was met before.
-use borrow.Author.Rules.{rules}
 use Rattle.cdf_resolve_spec.specs.Pass.{lacking_at}
 use Rattle.cdf_resolve_tally.proofs.lacking_at.Goals as goal
 

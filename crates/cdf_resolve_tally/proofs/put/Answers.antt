@@ -1,6 +1,5 @@
 -- Past the end nothing is written.
 use mathlib.Core.Path.{refl, sym}
-use borrow.Author.Rules.{rules}
 use lib.Seq.{set_out}
 use Rattle.cdf_resolve_tally.proofs.put.Goals as goal
 

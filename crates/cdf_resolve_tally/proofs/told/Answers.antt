@@ -2,7 +2,6 @@
 use mathlib.Core.Path.{◌∙◌}
 use borrow.Author.Tests.{lt-ltb, le-ltb}
 use Rattle.cdf_resolve_spec.specs.Pass.{told_by}
-use borrow.Author.Rules.{rules}
 use Rattle.cdf_resolve_tally.proofs.told.Goals as goal
 
 pub returns-then-room-count : goal.returns-then-room-count

@@ -1,6 +1,5 @@
 -- The outcome of a start, as an answer.
 use mathlib.Core.Path.{ap, ◌∙◌}
-use borrow.Author.Rules.{rules}
 use Rattle.cdf_reader.specs.View.{reply_of}
 use Rattle.cdf_reader.specs.Cursors.{place_with}
 use Rattle.cdf_reader.specs.declared.Answer.{Answer}

@@ -1,6 +1,5 @@
 -- As the first reader's start (cdf_reader_numbers' Calling), which it is by the table's list.
 use mathlib.Core.Path.{refl, sym, ◌∙◌}
-use borrow.Author.Rules.{rules}
 use Rattle.cdf_reader_spec.specs.Calls.{no_part}
 use Rattle.cdf_reader_spec.specs.declared.Call.TheVariants.{Start}
 use Rattle.cdf_reader_spec.proofs.Replying.{start_named}
@@ -13,9 +12,8 @@ use Rattle.cdf_table_reader_c.proofs.cdf_table_first.Goals as goal
 
 pub returns : goal.returns
 returns c =
-    let answered : (let a = c.args in
-    Answered Start a.s.now a.place.now c.table_first-a.result c.write_unit.new.a) = let a = c.args in
-    record {
+    let a = c.args in
+    let answered : Answered Start a.s.now a.place.now c.table_first-a.result c.write_unit.new.a = record {
       place = place_from a.place.now;
       read = refl;
       due = c.table_first-a.ensures.is ∙ first_alike _ _ ∙ sym (start_named _ _ (view (place_from a.place.now)));
@@ -25,4 +23,4 @@ returns c =
       by = refl;
       written = c.write_unit.ensures;
     } in
-    leaves_new (answered) refl _ c.write_place.ensures
+    leaves_new answered refl _ c.write_place.ensures

@@ -1,5 +1,4 @@
 -- The call by its name.
-use borrow.Author.Rules.{rules}
 use Rattle.cdf_table_reader_c.proofs.cdf_table_skip.Goals as goal
 
 pub returns : goal.returns

@@ -1,6 +1,5 @@
 -- By the judgement of the root (cdf_table_reader_spec/proofs/Starting); `told` is the place where it is known.
 use mathlib.Core.Path.{refl, sym, ap, ◌∙◌}
-use borrow.Author.Rules.{rules}
 use Rattle.cdf_reader_spec.specs.Slots.{open_units, open_ranks}
 use Rattle.cdf_reader_cursor.specs.Outcomes.{outcome_reply}
 use Rattle.cdf_reader_cursor.specs.declared.Outcome.{Outcome}

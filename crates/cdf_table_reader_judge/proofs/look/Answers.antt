@@ -1,7 +1,6 @@
 -- By the tests of the code, and at an entry by the entry.
 use mathlib.Core.Path.{◌∙◌}
 use native.Mathlib.Omega.{arith}
-use borrow.Author.Rules.{rules}
 use Rattle.cdf_table_reader_spec.proofs.Looks.{no_row, before_ids, past_ids, at_entry}
 use Rattle.cdf_table_reader_judge.proofs.look.Goals as goal
 

@@ -1,6 +1,5 @@
 -- The test of the room, and the run.
 use native.Mathlib.Omega.{arith}
-use borrow.Author.Rules.{rules}
 use Rattle.cdf_table_reader_replay_spec.proofs.Turning.{leaves_none, leaves_all}
 use Rattle.cdf_table_reader_replay.proofs.replay_in.Goals as goal
 

@@ -1,6 +1,5 @@
 -- The constant is the table's list: one computation over all its entries.
 use mathlib.Core.Path.{refl}
-use borrow.Author.Rules.{rules}
 use Rattle.cdf_table_reader_spec.specs.Table.{entries}
 use Rattle.cdf_table_reader_replay.proofs.table_replay.Goals as goal
 

@@ -1,5 +1,4 @@
 -- By the code (proofs/Turning).
-use borrow.Author.Rules.{rules}
 use Rattle.cdf_table_reader_replay_spec.proofs.Turning.{starts, nexts, skips}
 use Rattle.cdf_table_reader_replay.proofs.turn_by.Goals as goal
 
@@ -18,5 +17,6 @@ returns-then-code-eq2 c =
 pub returns : goal.returns
 returns c =
     let a = c.args in
-    let all = skips a.table.now _ a.s.now a.c _ c.if-code-eq1.false c.if-code-eq2.false c.call_at.result (c.call_at.ensures.is, (c.call_at.ensures.kept, c.call_at.ensures.again)) in
+    let told = c.call_at.ensures in
+    let all = skips a.table.now _ a.s.now a.c _ c.if-code-eq1.false c.if-code-eq2.false c.call_at.result (told.is, (told.kept, told.again)) in
     record { is = all.0; kept = all.1 }

@@ -1,6 +1,5 @@
 -- Eleven stores at the front.
 use native.Mathlib.Omega.{arith}
-use borrow.Author.Rules.{rules}
 use lib.ListN.{length-set}
 use lib.Seq.{sets-eq}
 use Rattle.cdf_reader_spec.specs.Calls.{no_part}

@@ -1,5 +1,4 @@
 -- By the cases of the own data.
-use borrow.Author.Rules.{rules}
 use Rattle.cdf_unit_judge.specs.Judge.{data_body}
 use Rattle.cdf_unit_judge.proofs.bodied.Goals as goal
 

@@ -1,7 +1,6 @@
 -- By the cases of the body.
 use mathlib.Core.Path.{subst}
 use native.Mathlib.Omega.{arith}
-use borrow.Author.Rules.{rules}
 use Rattle.cdf_unit_judge.specs.Judge.{found_by}
 use Rattle.cdf_unit_judge.specs.Short.{Short}
 use Rattle.cdf_unit_judge.proofs.found.Goals as goal

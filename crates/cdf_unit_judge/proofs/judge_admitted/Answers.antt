@@ -1,7 +1,6 @@
 -- By the body.
 use mathlib.Core.Path.{ap, ◌∙◌}
 use native.Mathlib.Omega.{arith}
-use borrow.Author.Rules.{rules}
 use Rattle.cdf_unit_prefix.specs.Layout.{layout_of}
 use Rattle.cdf_unit_judge.specs.Judge.{found_by}
 use Rattle.cdf_unit_judge.proofs.Placed.{short}

@@ -1,6 +1,5 @@
 -- The tests of the definition in its order.
 use mathlib.Core.Path.{ap, ◌∙◌}
-use borrow.Author.Rules.{rules}
 use Rattle.cdf_unit_judge.specs.Judge.{data_body, body_by}
 use Rattle.cdf_unit_judge.proofs.judge_body.Goals as goal
 

@@ -1,6 +1,5 @@
 -- The same by any row.
 use mathlib.Core.Path.{ap, ◌∙◌}
-use borrow.Author.Rules.{rules}
 use Rattle.cdf_unit_judge.specs.Judge.{data_body, body_by}
 use Rattle.cdf_unit_judge.proofs.judge_body_by.Goals as goal
 

@@ -1,7 +1,6 @@
 -- Each return by the law of its stage.
 use mathlib.Core.Path.{sym, ◌∙◌}
 use mathlib.Core.Bool.{true}
-use borrow.Author.Rules.{rules}
 use borrow.Author.Tests.{not-true, not-false}
 use Rattle.cdf_unit_table.specs.States.{admits}
 use Rattle.cdf_unit_judge.proofs.Stages.{stopped, in_is, root_other, root_acts, root_found}

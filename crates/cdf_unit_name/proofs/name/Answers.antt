@@ -4,7 +4,6 @@ use mathlib.Core.Path.{◌≡◌, refl, sym, ◌∙◌}
 use lib.ListN.{drop, get_or}
 use native.Mathlib.Omega.{arith}
 use borrow.Author.Tests.{le-leb, lt-leb, eq-eqb, ne_eqb}
-use borrow.Author.Rules.{rules}
 use Rattle.cdf_unit_table.proofs.Parts.{minus_one}
 use Rattle.cdf_unit_data.specs.Data.{name_by, spelled}
 use Rattle.cdf_unit_data.specs.Standing.{row_bytes}

@@ -1,11 +1,8 @@
 -- The loop's invariant: every byte passed may stand in a name.
 use Prim.Native.Nat.{◌-◌}
-use native.Mathlib.Omega.{arith}
-use borrow.Author.Rules.{rules}
-use borrow.Author.Tests.{not-true, not-false}
 use lib.ListN.{length}
 use Rattle.cdf_unit_data.specs.Standing.{row_bytes}
-use Rattle.cdf_unit_data.proofs.Names.{Run, front_none, front_bad, begun, stopped, on, ended}
+use Rattle.cdf_unit_data.proofs.Names.{Run}
 use Rattle.cdf_unit_name.proofs.name_front.Given as goal
 
 abbrev pub invariant-loop-i : goal.invariant-loop-i

@@ -2,7 +2,6 @@
 use mathlib.Core.Path.{sym, ◌∙◌}
 use Rattle.cdf_unit_data.specs.Data.{value_after}
 use Rattle.cdf_unit_data.proofs.Taken.{name_short}
-use borrow.Author.Rules.{rules}
 use Rattle.cdf_unit_own.proofs.name_and_value.Goals as goal
 
 pub value-requires : goal.value-requires

@@ -1,7 +1,6 @@
 -- As by any row (proofs/own_data_by), with the constant one, which is 01's: one computation over all its entries.
 use mathlib.Core.Path.{◌≡◌, refl}
 use mathlib.Core.List.{[], ◌∷◌}
-use borrow.Author.Rules.{rules}
 use Rattle.cdf_unit_table.proofs.Match.{each}
 use Rattle.cdf_unit_data.specs.Data.{own_data_by, own_data}
 use Rattle.cdf_unit_data.specs.Standing.{name_row}

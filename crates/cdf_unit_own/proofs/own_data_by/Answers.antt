@@ -1,7 +1,6 @@
 -- Each arm by its rule, and any other id by its own data without a name.
 use mathlib.Core.Path.{◌≡◌}
 use mathlib.Core.List.{[], ◌∷◌}
-use borrow.Author.Rules.{rules}
 use Rattle.cdf_unit_table.proofs.Match.{each}
 use Rattle.cdf_unit_data.specs.Data.{own_data_by}
 use Rattle.cdf_unit_data.specs.Standing.{row_bytes}

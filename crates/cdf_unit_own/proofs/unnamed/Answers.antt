@@ -2,7 +2,6 @@
 use Prim.Native.Nat.{ℕ}
 use mathlib.Core.Path.{◌≡◌}
 use mathlib.Core.List.{List, [], ◌∷◌}
-use borrow.Author.Rules.{rules}
 use Rattle.cdf_unit_table.specs.Ids.{member, kind_of}
 use Rattle.cdf_unit_table.proofs.Match.{each}
 use Rattle.cdf_unit_table.proofs.Others.{blank_else}

@@ -1,7 +1,6 @@
 -- By the test of the definition.
 use Rattle.cdf_unit_data.specs.Data.{value_from}
 use borrow.Author.Tests.{le-leb, lt-leb}
-use borrow.Author.Rules.{rules}
 use Rattle.cdf_unit_own.proofs.value.Goals as goal
 
 pub returns-then-s-k : goal.returns-then-s-k

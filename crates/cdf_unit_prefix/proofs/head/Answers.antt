@@ -1,7 +1,6 @@
 -- The tests of the definition in its order.
 use Rattle.cdf_unit_prefix.specs.Rules.{head_of}
 use borrow.Author.Tests.{lt-ltb, le-ltb}
-use borrow.Author.Rules.{rules}
 use Rattle.cdf_unit_prefix.proofs.head.Goals as goal
 
 pub returns-then-s-p : goal.returns-then-s-p

@@ -1,5 +1,4 @@
 -- By the edition's second byte.
-use borrow.Author.Rules.{rules}
 use Rattle.cdf_unit_prefix.specs.Layout.{marked}
 use Rattle.cdf_unit_prefix.proofs.is_mark.Goals as goal
 

@@ -5,7 +5,6 @@ use native.Mathlib.Omega.{arith}
 use Rattle.cdf_unit_prefix.specs.Layout.{layout_of, prefix_of, length_at}
 use Rattle.cdf_unit_prefix.specs.declared.Edition.{Edition}
 use Rattle.cdf_unit_prefix.specs.declared.Edition.TheVariants.{Second}
-use borrow.Author.Rules.{rules}
 use Rattle.cdf_unit_prefix.proofs.length_at.Goals as goal
 
 long : (e : Edition) (n : ℕ) → e ≡ Second → prefix_of (layout_of e) ≤ n → 8 ≤ n

@@ -1,6 +1,5 @@
 -- By the case of the root.
 use Rattle.cdf_unit_prefix.specs.Layout.{length_fits}
-use borrow.Author.Rules.{rules}
 use Rattle.cdf_unit_prefix.proofs.length_fits.Goals as goal
 
 pub returns-then-root : goal.returns-then-root

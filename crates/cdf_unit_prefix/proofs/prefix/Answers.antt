@@ -1,6 +1,5 @@
 -- By the edition.
 use native.Mathlib.Omega.{arith}
-use borrow.Author.Rules.{rules}
 use Rattle.cdf_unit_prefix.proofs.prefix.Goals as goal
 
 pub returns-in-First : goal.returns-in-First

@@ -1,5 +1,4 @@
 -- By the edition.
-use borrow.Author.Rules.{rules}
 use Rattle.cdf_unit_prefix.proofs.second_mark.Goals as goal
 
 pub returns-in-First : goal.returns-in-First

@@ -1,7 +1,6 @@
 -- Below 32 by computation; from there on both sides are false.
 use mathlib.Core.Bool.{not, ◌&&◌, and-false}
 use native.Mathlib.Omega.{arith}
-use borrow.Author.Rules.{rules}
 use borrow.Author.Tests.{le-ltb}
 use lib.Dec.{eqb, leb, ltb}
 use Rattle.cdf_unit_table.specs.States.{states_end, skipped}

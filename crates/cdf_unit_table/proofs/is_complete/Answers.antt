@@ -1,5 +1,4 @@
 -- Below 32 by computation; from there on both sides are false.
-use borrow.Author.Rules.{rules}
 use Rattle.cdf_unit_table.specs.States.{complete, complete_states}
 use Rattle.cdf_unit_table.proofs.Tests.{by_bit, not_member}
 use Rattle.cdf_unit_table.proofs.is_complete.Goals as goal

@@ -3,7 +3,6 @@
 use mathlib.Core.Path.{◌≡◌, refl, ◌∙◌}
 use mathlib.Core.List.{[], ◌∷◌}
 use native.Mathlib.Omega.{arith}
-use borrow.Author.Rules.{rules}
 use Rattle.cdf_unit_table.specs.Ids.{member, call, parameter, er_group, template, field, relation, ordered_relation, file_group, line}
 use Rattle.cdf_unit_table.specs.States.{admit, stream_new, stream_call, stream_group, er_new, er_data, file_new, file_lines}
 use Rattle.cdf_unit_table.specs.States.{call_new, call_parameters, template_temporary, template_fields}

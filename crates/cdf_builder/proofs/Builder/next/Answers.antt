@@ -1,5 +1,4 @@
 -- The call of the parts, as one of the struct (proofs/Passed).
-use borrow.Author.Rules.{rules}
 use Rattle.cdf_unit_prefix.specs.Layout.{layout_of}
 use Rattle.cdf_unit_prefix.specs.declared.Edition.TheVariants.{First}
 use Rattle.cdf_builder_spec.specs.Place.{BuilderPlace}

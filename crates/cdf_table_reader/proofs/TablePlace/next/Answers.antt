@@ -1,5 +1,4 @@
 -- The constant is the table's list: one computation over all its entries.
-use borrow.Author.Rules.{rules}
 use Rattle.cdf_table_reader_spec.specs.Table.{entries}
 use Rattle.cdf_table_reader.proofs.TablePlace.next.Goals as goal
 

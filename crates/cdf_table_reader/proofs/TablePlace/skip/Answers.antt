@@ -1,6 +1,5 @@
 -- SKIP is the first reader's.
 use mathlib.Core.Path.{sym, ◌∙◌}
-use borrow.Author.Rules.{rules}
 use Rattle.cdf_table_reader_spec.proofs.Alike.{skip_alike}
 use Rattle.cdf_table_reader.proofs.TablePlace.skip.Goals as goal
 
