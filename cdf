@@ -1,13 +1,13 @@
 #!/usr/bin/env bash
 # Runs the command for people, rust/cli. Where its program is missing, or older than what it is made of, it is built first: the crates
-# that C calls are proved and joined (./library), and cargo makes the program. One build serves all commands.
+# are proved and those that C calls joined (./library), and cargo makes the program. One build serves all commands.
 set -u
 unset CDPATH CDF_LIB_DIR CARGO_TARGET_DIR
 self=$(readlink -f -- "${BASH_SOURCE[0]}") || exit 2
 root=${self%/*}
 program=$root/rust/target/release/cdf
 log=$root/rust/target/build.log
-kit='rattle-kit-5b-plain logic 097e4c862dff5811' # what it was proved with
+kit='rattle-kit-13f logic dac8208d650f15bf' # what it was proved with
 
 fail() {
     printf 'cdf: %s\n' "$1" >&2
@@ -17,35 +17,26 @@ fail() {
 # Something that the program is made of and that is newer, or the program itself if it is not there.
 newer() {
     [ -x "$program" ] || { printf '%s\n' "$program" && return; }
-    find "$root/crates" "$root/crates.txt" "$root/library" "$root/include" "$root/rust" \( -path "$root/rust/target" -o -path '*/tests' \) -prune -o -type f \
+    find "$root/crates" "$root/crates.txt" "$root/library" "$root/include" "$root/rust" \( -path "$root/rust/target" -o -path "$root/crates/*/out" -o -path '*/tests' \) -prune -o -type f \
         \( -name '*.rt' -o -name '*.antt' -o -name '*.rs' -o -name '*.toml' -o -name '*.lock' -o -name '*.h' -o -name crates.txt -o -name library \) \
         -newer "$program" -print -quit
 }
 
-# How many crates are proved for the archive: those that C calls, and all below them.
+# How many crates are proved.
 count_crates() {
-    awk -v wanted="$("$root/library" --crates)" '
-        { sub(/#.*/, ""); at = index($0, ":"); if (at) below[substr($0, 1, at - 1)] = substr($0, at + 1) }
-        function visit(name, parts, n, k) {
-            if (name in seen || !(name in below)) return
-            seen[name] = 1; found++
-            n = split(below[name], parts, " ")
-            for (k = 1; k <= n; k++) visit(parts[k])
-        }
-        END { n = split(wanted, names, " "); for (k = 1; k <= n; k++) visit(names[k]); print found + 0 }' "$root/crates.txt"
+    awk '{ sub(/#.*/, "") } /:/ { found++ } END { print found + 0 }' "$root/crates.txt"
 }
 
 make_all() {
     cd "$root" || return 1
-    # shellcheck disable=SC2046
-    rt check $(./library --crates) && ./library && cargo build --quiet --offline --release --manifest-path rust/Cargo.toml -p cdf-cli && touch "$program"
+    ./library && cargo build --quiet --offline --release --manifest-path rust/Cargo.toml -p cdf-cli && touch "$program"
 }
 
 # What is said while it is built: on a terminal one line that changes, else a line now and then.
 tell_progress() { # PID TOTAL
     local proved last=-1 waited=0
     while kill -0 "$1" 2>/dev/null; do
-        proved=$(grep -c '^rt: [a-z_0-9]* proved' "$log" 2>/dev/null)
+        proved=$(grep -c '^library: checked ' "$log" 2>/dev/null)
         if [ -t 2 ]; then
             printf '\rcdf: proved %s of %s ' "${proved:-0}" "$2" >&2
         elif [ "${proved:-0}" -ne "$last" ] && [ $((waited % 50)) -eq 0 ]; then
@@ -65,7 +56,7 @@ build() {
     command -v cargo >/dev/null || fail "$why; to build it 'cargo' must be on the PATH"
     mkdir -p "$root/target" "${log%/*}" 2>/dev/null && : 2>/dev/null >"$log" && [ -w "$root/target" ] ||
         fail "$why; $root/target and ${log%/*} cannot be written"
-    printf 'cdf: building the program: every function is proved first, in some minutes on two cores\n' >&2
+    printf 'cdf: building the program: every function is proved first, in some minutes on four cores\n' >&2
     # A session of its own, so that all of it can be ended.
     export -f make_all
     root=$root program=$program setsid bash -c make_all >"$log" 2>&1 </dev/null 9<&- &
@@ -78,7 +69,7 @@ build() {
     trap - INT TERM HUP
     if [ "$status" -ne 0 ]; then
         kill -- "-$pid" 2>/dev/null # what a failed part left running
-        [ -d "$root/target" ] || fail "$why; target/ was removed while it was built, as ./test does: call again"
+        [ -d "$root/target" ] || fail "$why; target/ was removed while it was built: call again"
         tail -n 5 "$log" >&2
         [ "$(rt version 2>/dev/null)" = "$kit" ] || printf 'cdf: this kit is %s; proved it was with %s\n' "$(rt version 2>&1)" "$kit" >&2
         fail "$why; it could not be built, and the whole account is in $log"

@@ -12,14 +12,14 @@ from pathlib import Path
 RT = """#!/bin/bash
 [ "$1" != version ] || { echo a-kit; exit; }
 echo "$$ $*" >>"$STAND_INS/called"
-echo 'rt: cdf_one proved'
 trap '' TERM
 sleep 1 & wait
 [ -z "${LOSES-}" ] || rm -rf target
 [ -z "${FAILS-}" ] || { echo 'rt: no proof'; exit 1; }
 """
 LIBRARY = """#!/bin/bash
-[ "${1-}" != --crates ] || { echo cdf_two; exit; }
+echo 'library: checked cdf_one'
+rt all check || exit 1
 mkdir -p target && touch target/libcdf.a
 """
 CARGO = """#!/bin/bash
@@ -28,15 +28,15 @@ printf '#!/bin/bash\\necho "ran: $*"\\n' >rust/target/release/cdf
 chmod +x rust/target/release/cdf
 """
 TOOLS = "bash readlink find awk flock setsid sleep grep mkdir tail touch rm chmod cat"
-KIT = "rattle-kit-5b-plain logic 097e4c862dff5811"
-BUILDING = "cdf: building the program: every function is proved first, in some minutes on two cores\n"
+KIT = "rattle-kit-13f logic dac8208d650f15bf"
+BUILDING = "cdf: building the program: every function is proved first, in some minutes on four cores\n"
 BUILT = "cdf: built in N seconds\n"
 NEW, OLD = "the program is not built yet", "the program is older than what it is made of, and is not run"
 
 
 def plain(error):
     """Standard error without what depends on the time: progress, and seconds."""
-    error = re.sub(r"^cdf: proved [01] of 2\n", "", error, flags=re.M)
+    error = re.sub(r"^cdf: proved [01] of 3\n", "", error, flags=re.M)
     return re.sub(r"built in \d+ seconds", "built in N seconds", error)
 
 
@@ -65,7 +65,7 @@ class Copy:
     def __init__(self, root, folder):
         self.top, self.bin = folder / "tree", folder / "bin"
         for path, text in (("library", LIBRARY), ("crates/cdf_one/src/lib.rt", ""), ("include/cdf.h", ""), ("rust/Cargo.toml", ""),
-                           ("crates.txt", "cdf_one:\ncdf_two: cdf_one\ncdf_three:\n")):
+                           ("crates.txt", "# Three.\ncdf_one:\ncdf_two staticlib: cdf_one\ncdf_three:\n")):
             (self.top / path).parent.mkdir(parents=True, exist_ok=True)
             (self.top / path).write_text(text)
         shutil.copy(root / "cdf", self.top / "cdf")
@@ -134,7 +134,7 @@ def runs(root, compare, differs):
         waits = "cdf: another call is building, waiting\n"
         differs("two first builds at once", ("outputs", [output for output, _, _ in said], ["ran: list a\n", "ran: check b\n"]),
                 ("standard errors", errors, [waits, BUILDING + BUILT]), ("statuses", [status for *_, status in said], [0, 0]),
-                ("proofs", len(copy.calls()), 1), ("progress", any(re.search("^cdf: proved [01] of 2$", error, re.M) for _, error, _ in said), True))
+                ("proofs", len(copy.calls()), 1), ("progress", any(re.search("^cdf: proved [01] of 3$", error, re.M) for _, error, _ in said), True))
         same("a second command builds nothing", copy.run("show"), ("ran: show\n", "", 0))
         (Path(name) / "elsewhere").mkdir()
         (Path(name) / "elsewhere/cdf").symlink_to("../tree/cdf")
@@ -143,9 +143,9 @@ def runs(root, compare, differs):
         log = copy.top / "rust/target/build.log"
         other = f"cdf: this kit is a-kit; proved it was with {KIT}\n"
         same("newer, and cannot be built", copy.run("x", FAILS="1"),
-             fails(f"{OLD}; it could not be built, and the whole account is in {log}", f"{BUILDING}rt: cdf_one proved\nrt: no proof\n{other}"))
+             fails(f"{OLD}; it could not be built, and the whole account is in {log}", f"{BUILDING}library: checked cdf_one\nrt: no proof\n{other}"))
         same("target/ is lost", copy.run("x", FAILS="1", LOSES="1"),
-             fails(f"{OLD}; target/ was removed while it was built, as ./test does: call again", BUILDING))
+             fails(f"{OLD}; target/ was removed while it was built: call again", BUILDING))
         (copy.top / "target").write_text("")
         same("target/ cannot be written", copy.run("x"), fails(f"{OLD}; {copy.top}/target and {log.parent} cannot be written"))
         (copy.top / "target").unlink()
