@@ -100,11 +100,11 @@ module _ (first : Ranked) (rest : List Ranked) where
     state_none = refl
 
     module _ (c : Call) (cs : List Call) where
-      pub plain-on :
+      pub plain_on :
           plain_from first rest st (c ∷ cs)
           ≡ (plain_answer first rest st c).told ∷ plain_from first rest (plain_answer first rest st c).state cs
       unfolding plain_from
-      plain-on = refl
+      plain_on = refl
 
       pub state_on : state_from first rest st (c ∷ cs) ≡ state_from first rest (plain_answer first rest st c).state cs
       unfolding state_from

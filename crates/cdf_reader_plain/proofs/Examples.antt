@@ -8,4 +8,4 @@ use Rattle.cdf_reader_plain.specs.Claims.{Examples}
 
 pub examples : Examples
 unfolding reader_run plain_run ranked_units nested every positioned at_last unit_of admits_kind
-examples = record { example-k2 = (refl, refl, refl); example-k12 = (refl, refl, refl); example_k6 = refl }
+examples = record { example_k2 = (refl, refl, refl); example_k12 = (refl, refl, refl); example_k6 = refl }

@@ -11,7 +11,7 @@ use Rattle.cdf_reader_spec.specs.declared.Call.{Call}
 use Rattle.cdf_reader_spec.specs.declared.Call.TheVariants.{Start, Next, Skip, GetStream, Previous}
 use Rattle.cdf_reader_plain.specs.Plain.{State, fresh_at, Turn, followers, hand_out, span_of, plain_answer}
 use Rattle.cdf_reader_plain.specs.Runs.{plain_from, plain_run, number_at}
-use Rattle.cdf_reader_plain.proofs.Equations.{pass, plain_none, plain-on, plain_is}
+use Rattle.cdf_reader_plain.proofs.Equations.{pass, plain_none, plain_on, plain_is}
 
 -- A number that is not one from 2 to 10.
 abbrev pub Apart : ℕ → Type 0
@@ -39,8 +39,8 @@ module _ (first : Ranked) (rest : List Ranked) where
   -- So does each call of a run.
   from_apart : (cs : List Call) (st : State) (k : ℕ) → Apart (number_at k (plain_from first rest st cs))
   from_apart [] st k = rw plain_none (λ h. absurd (omega arith))
-  from_apart (c ∷ cs) st zero = rw plain-on (answer_apart st c)
-  from_apart (c ∷ cs) st (suc k) = rw plain-on (from_apart cs (plain_answer first rest st c).state k)
+  from_apart (c ∷ cs) st zero = rw plain_on (answer_apart st c)
+  from_apart (c ∷ cs) st (suc k) = rw plain_on (from_apart cs (plain_answer first rest st c).state k)
 
   pub run_apart : (cs : List Call) (k : ℕ) → Apart (number_at k (plain_run first rest cs))
   run_apart cs zero = rw plain_is (λ h. absurd (omega arith))

@@ -22,7 +22,7 @@ use Rattle.cdf_reader_plain.specs.Plain.{State, fresh_at, turn, hand_out, span_o
 use Rattle.cdf_reader_plain.specs.Runs.{reader_run, place_after, tells_after, plain_from, state_from, plain_run, following, bytes_in}
 use Rattle.cdf_reader_spec.proofs.Replying.{passing_tests, take_is, part_is}
 use Rattle.cdf_reader_plain.proofs.Equations.{start_call, take_call, next_turn, reader_none, reader_on, place_none, place_on}
-use Rattle.cdf_reader_plain.proofs.Equations.{plain_none, plain-on, state_none, state_on, plain_is, following_is, after_is}
+use Rattle.cdf_reader_plain.proofs.Equations.{plain_none, plain_on, state_none, state_on, plain_is, following_is, after_is}
 use Rattle.cdf_reader_plain.proofs.Answers.{Belongs, Same, last_is, start_same, call_same}
 use Rattle.cdf_reader_plain.proofs.Streams.{Readable, group_stream}
 
@@ -66,7 +66,7 @@ module _ (l : Layout) (s : List ℕ) where
     runs_same [] p st at = rw (reader_none, plain_none)
     runs_same (c ∷ cs) p st at =
         let a = called p st at c in
-        rw (reader_on, plain-on, a.told, runs_same cs (call_of l s p c).place (plain_answer first rest st c).state a.place)
+        rw (reader_on, plain_on, a.told, runs_same cs (call_of l s p c).place (plain_answer first rest st c).state a.place)
 
     after_run : (cs : List Call) (p : ReaderPlace) (st : State) → Together p st →
         Together (place_after l s p cs) (state_from first rest st cs)

@@ -71,11 +71,11 @@ pub record Claims : Type 0 where
 -- Runs with each answer written out.
 pub record Examples : Type 0 where
   -- With every call, and with refused ones: both readers give these answers.
-  pub example-k2 :
+  pub example_k2 :
       (ranked_units (layout_of First) k2 ≡ group ∷ template ∷ key ∷ field ∷ [])
       × (reader_run (layout_of First) k2 empty_place (Start ∷ k2_calls) ≡ k2_answers)
       × (plain_run group (template ∷ key ∷ field ∷ []) k2_calls ≡ k2_answers)
-  pub example-k12 :
+  pub example_k12 :
       (ranked_units (layout_of First) k12 ≡ stream ∷ call ∷ [])
       × (reader_run (layout_of First) k12 empty_place (Start ∷ k12_calls) ≡ k12_answers)
       × (plain_run stream (call ∷ []) k12_calls ≡ k12_answers)
