@@ -97,7 +97,8 @@ def main():
     n = 0
     for p in walk("crates", ".antt", ".edit"):
         text = read(p)
-        got = TOKEN.sub(lambda m: m.group(0) if m.start() and text[m.start() - 1] == "." and m.group(0) not in held else names.get(m.group(0), m.group(0)), text)
+        dotted = lambda m: m.start() and text[m.start() - 1] == "." and m.group(0) not in held
+        got = TOKEN.sub(lambda m: m.group(0) if dotted(m) else names.get(m.group(0), m.group(0)), text)
         if got != text:
             n += 1
             with open(p, "w", encoding="utf-8") as f:
