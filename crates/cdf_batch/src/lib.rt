@@ -6,27 +6,49 @@ ghost use Rattle.cdf_unit_prefix.specs.Layout.{layout_of};
 ghost use Rattle.cdf_unit_prefix.specs.declared.Edition.TheVariants.{First};
 ghost use Rattle.cdf_batch_spec.specs.Batches.{batch_of};
 ghost use Rattle.cdf_batch_turn.specs.Numbers.{viewed, outcome_of};
-ghost use Rattle.cdf_batch_turn.specs.Passes.{going, pass_of};
+ghost use Rattle.cdf_batch_turn.specs.Passes.{writes, going, pass_of, from_place, passed, batched_of};
 
 use cdf_batch_spec::UnitRequest;
-use cdf_batch_turn::{Batched, PlaceNumbers, Ran, begun, second, told, turn};
+use cdf_batch_turn::{Batched, Pass, PlaceNumbers, Refused, begun, told, turn};
 
-// A pass over the list.
-fn run_all(start: Ran, buffer: &mut [u8], list: &[UnitRequest], text: &[u8]) -> Ran
-    ensures { going result buffer.new
-        ≡ pass_of (layout_of First) text.now (going start buffer.old) 0 list.now }
+// A pass over the list, up to the first request that is refused.
+fn run_all(
+    pass: Pass,
+    start: PlaceNumbers,
+    buffer: &mut [u8],
+    list: &[UnitRequest],
+    text: &[u8],
+) -> Result<PlaceNumbers, Refused>
+    ensures { passed (writes pass) (viewed start) result buffer.new
+        ≡ from_place (viewed start)
+        (pass_of (layout_of First) text.now (going (writes pass) (viewed start) buffer.old) 0 list.now) }
 {
-    let mut ran = start;
-    let mut k = 0;
-    while k < list.len() {
-        let r = list[k];
-        ran = turn(ran, buffer, k, r, text);
-        k += 1;
+    let mut place = start;
+    for (rank, &request) in list.iter().enumerate() {
+        place = turn(pass, place, buffer, request, text).map_err(|refusal| Refused {
+            refusal,
+            rank,
+        })?;
     }
-    ran
+    Ok(place)
 }
 
-// Builds the list, or nothing: every answer is known before a byte is written.
+// Every answer is known before a byte is written.
+fn build(
+    given: PlaceNumbers,
+    buffer: &mut [u8],
+    list: &[UnitRequest],
+    text: &[u8],
+) -> Result<PlaceNumbers, Refused>
+    ensures { outcome_of (batched_of given result) buffer.new
+        ≡ batch_of (layout_of First) buffer.old text.now (viewed given) list.now }
+{
+    begun(given, buffer.len(), list.len())?;
+    run_all(Pass::Judging, given, buffer, list, text)?;
+    run_all(Pass::Writing, given, buffer, list, text)
+}
+
+// Builds the list, or nothing.
 #[unsafe(no_mangle)]
 pub extern "C" fn cdf_build_batch(
     place: PlaceNumbers,
@@ -38,9 +60,5 @@ pub extern "C" fn cdf_build_batch(
         ≡ batch_of (layout_of First) buffer.old text.now (viewed place) list.now }
     ensures kept { (result.number ≡ 0 → ⊥) → result.place ≡ place }
 {
-    let start = begun(place, buffer.len(), list.len());
-    let decided = run_all(start, buffer, list, text);
-    let ready = second(place, decided);
-    let written = run_all(ready, buffer, list, text);
-    told(place, written)
+    told(place, build(place, buffer, list, text))
 }

@@ -1,12 +1,7 @@
 -- NEXT's rules in two stages: those that ask nothing of the own data (2, 6, 7, 10, 8), and what is asked behind them (9, 13, 12).
-use Prim.Native.Nat.{ℕ, ◌≤◌}
-use mathlib.Core.Path.{◌≡◌, refl, sym, ap, subst, ◌∙◌}
-use mathlib.Core.Bool.{Bool, true, false, cond, not, ◌||◌}
-use mathlib.Core.List.{List, []}
-use mathlib.Core.Logic.{◌⊎◌, inl, inr}
-use native.Mathlib.Omega.{arith}
-use lib.Dec.{ltb, eqb}
-use lib.ListN.{length, replicate, length-replicate}
+use Rattle.std.proofs.Common.{ℕ, ◌≤◌, ◌≡◌, refl, sym, ap, subst, ◌∙◌, Bool, true, false, cond, not, ◌||◌, List, [], ◌⊎◌, inl, inr, arith, ltb, eqb}
+use Rattle.std.proofs.Common.{length, replicate}
+use Rattle.std.proofs.lemmas.List.{length-replicate}
 use Rattle.cdf_unit_table.specs.Ids.{known, action_allowed}
 use Rattle.cdf_unit_prefix.specs.Layout.{Layout}
 use Rattle.cdf_grammar.specs.Encoding.{Item}

@@ -1,13 +1,8 @@
 -- The numbers of the two passes, which do not ask whether the place fits. At one that does, the first pass tells what is due; and of a request that
 -- answers 0 the second tells 0.
-use Prim.Native.Nat.{ℕ, suc, ◌+◌, ◌≤◌}
-use mathlib.Core.Path.{◌≡◌, refl, sym, ap, ◌∙◌}
-use mathlib.Core.Bool.{Bool, true, false, cond, not}
-use mathlib.Core.List.{List, [], ◌∷◌, ◌++◌}
-use native.Mathlib.Omega.{arith}
-use borrow.Author.Tests.{eqb-true, eqb-false, le-ltb, lt-ltb, ltb-true, ltb-false}
-use lib.Dec.{eqb, ltb}
-use lib.ListN.{length}
+use Rattle.std.proofs.Common.{ℕ, suc, ◌+◌, ◌≤◌, ◌≡◌, refl, sym, ◌∙◌, Bool, true, false, cond, not, List, [], ◌∷◌, ◌++◌, arith, eqb-true, ne_eqb}
+use Rattle.std.proofs.Common.{le-ltb, lt-ltb, ltb-true, ltb-false, eqb, ltb, length}
+use Rattle.std.proofs.lemmas.Bool.{eqb-false}
 use Rattle.cdf_unit_table.specs.Ids.{known, action_allowed}
 use Rattle.cdf_unit_table.specs.States.{nothing}
 use Rattle.cdf_unit_table.proofs.Bools.{past}
@@ -27,7 +22,7 @@ use Rattle.cdf_builder_decide.proofs.Few.{few}
 use Rattle.cdf_batch_spec.specs.declared.UnitRequest.{UnitRequest}
 use Rattle.cdf_batch_spec.specs.Asking.{bounded, asked, unbounded}
 use Rattle.cdf_batch_spec.proofs.Staged.{unbounded_is}
-use Rattle.cdf_batch_turn.specs.Passes.{or_else, part, fault_of, crowded, pass_number}
+use Rattle.cdf_batch_turn.specs.Passes.{or_else, part, within, fault_of, crowded, pass_number}
 
 -- Of two numbers the first that is not 0: what is behind it does not matter.
 unless : (j x t : ℕ) → (or_else j x ≡ 0 → t ≡ 0) → or_else j (or_else x t) ≡ or_else j x
@@ -67,22 +62,6 @@ crowded_by false count o os is = rw is (by (ltb 3 count) refl)
     by true e = e ∙ sym (lt-ltb 4 (suc count) (omega (arith, ltb-true 3 count e)))
     by false e = e ∙ sym (le-ltb 4 (suc count) (omega (arith, ltb-false 3 count e)))
 
--- A fault that is 0: the bounds are good and what is written is within the limit.
-pub faultless : (l : Layout) (writing : Bool) (n written : ℕ) (text : List ℕ) (r : UnitRequest) → fault_of l writing n written text r ≡ 0 →
-    (bounded text r ≡ true) × (written ≤ l.limit)
-unfolding fault_of
-faultless l writing n written text r z = by (bounded text r) refl
-  where
-    some : (b : Bool) → ◌≡◌ {A = ℕ} (cond b 9 8) 0 → ⊥
-    some true e = omega (arith, e)
-    some false e = omega (arith, e)
-
-    by : (b : Bool) → bounded text r ≡ b → (bounded text r ≡ true) × (written ≤ l.limit)
-    by true e =
-        let w = past (ltb l.limit written) 13 _ (λ x. omega arith) (rw e at z) in
-        (e, ltb-false l.limit written w.0)
-    by false e = absurd (some (action_allowed r.id r.action) (rw e at z))
-
 module _ (l : Layout) (writing : Bool) (n : ℕ) (text : List ℕ) (p : BuilderPlace) (r : UnitRequest) where
   abbrev fault : ℕ
   fault = fault_of l writing n p.written text r
@@ -94,23 +73,31 @@ module _ (l : Layout) (writing : Bool) (n : ℕ) (text : List ℕ) (p : BuilderP
   unfolding pass_number
   number_unknown e = rw e
 
+  -- What the code tells by its parts: of bad bounds, and of good ones.
+  pub fault_bad : bounded text r ≡ false → (m : ℕ) → m ≡ cond (action_allowed r.id r.action) 9 8 → m ≡ fault
+  unfolding fault_of
+  fault_bad bad m e = e ∙ rw bad
+
+  pub fault_good : bounded text r ≡ true → (own : List ℕ) → own ≡ part text r → (m : ℕ) → m ≡ within l writing n p.written r own → m ≡ fault
+  unfolding fault_of
+  fault_good good own is m e = e ∙ rw (is, good)
+
   number_known : known r.id ≡ true → pass_number l writing n text p r ≡ or_else (join_number p.units r.id 0) (or_else fault behind)
   unfolding pass_number
   number_known e = rw e
 
-  -- By the number with which it joins, and what is asked then.
-  module _ (k : known r.id ≡ true) (j : ℕ) (joins : j ≡ join_number p.units r.id 0) (m : ℕ) (is : m ≡ or_else j fault) where
-    due : m ≡ or_else (join_number p.units r.id 0) fault
-    due = is ∙ ap (λ (x : ℕ). or_else x fault) joins
+  module _ (k : known r.id ≡ true) where
+    -- It does not join;
+    pub number_joins : (m : ℕ) → m ≡ join_number p.units r.id 0 → (m ≡ 0 → ⊥) → pass_number l writing n text p r ≡ m
+    number_joins m is some = number_known k ∙ rw (← is, ne_eqb m 0 some)
 
-    pub number_some : (m ≡ 0 → ⊥) → pass_number l writing n text p r ≡ m
-    number_some some =
-        number_known k ∙ unless (join_number p.units r.id 0) fault behind (λ z. absurd (some (due ∙ z))) ∙ sym due
+    -- or it does, and of what is asked then something is told, or nothing.
+    module _ (joins : 0 ≡ join_number p.units r.id 0) where
+      pub number_faults : (m : ℕ) → m ≡ fault → (m ≡ 0 → ⊥) → pass_number l writing n text p r ≡ m
+      number_faults m is some = number_known k ∙ rw (← joins, ← is, ne_eqb m 0 some)
 
-    pub number_none : m ≡ 0 → pass_number l writing n text p r ≡ behind
-    number_none none =
-        let w = neither (join_number p.units r.id 0) fault (sym due ∙ none) in
-        number_known k ∙ rw (w.0, w.1)
+      pub number_none : 0 ≡ fault → pass_number l writing n text p r ≡ behind
+      number_none none = number_known k ∙ rw (← joins, ← none)
 
   -- Bad bounds are told alike in both passes.
   pub number_bad : fits l n p ≡ true → bounded text r ≡ false → pass_number l writing n text p r ≡ unbounded l n p r
@@ -122,11 +109,11 @@ module _ (l : Layout) (writing : Bool) (n : ℕ) (text : List ℕ) (p : BuilderP
 
 -- The units then open, by the slots.
 pub crowded_is : (l : Layout) (text : List ℕ) (p : Parts) (r : UnitRequest) (count : ℕ) (top : Begun) →
-    units count top p.o1 p.o2 p.o3 ≡ advanced r.id (joining r.id (placed p).units) → (first : ℕ) → first ≡ nothing r.id →
+    units count top p.units.o1 p.units.o2 p.units.o3 ≡ advanced r.id (joining r.id (placed p).units) → (first : ℕ) → first ≡ nothing r.id →
     cond (eqb first 0) (ltb 4 count) (ltb 3 count) ≡ crowded l text (placed p) r
 crowded_is l text p r count top left first is =
     rw (unit_place l 0 p count top r.id left r.action (part text r) _ refl first is)
-    (crowded_by (eqb first 0) count _ _ (length_held no_begun count top p.o1 p.o2 p.o3))
+    (crowded_by (eqb first 0) count _ _ (length_held no_begun count top p.units.o1 p.units.o2 p.units.o3))
 
 module _ (l : Layout) (n : ℕ) (text : List ℕ) (p : BuilderPlace) (r : UnitRequest) (good : bounded text r ≡ true) where
   abbrev number : ℕ

@@ -1,12 +1,10 @@
 -- What a turn comes to, one case at a time, and that the code's is the one that is due.
-use Prim.Native.Nat.{ℕ, ◌+◌, ◌≤◌, ◌%◌}
-use mathlib.Core.Path.{◌≡◌, refl, sym, ap, ◌∙◌}
-use mathlib.Core.Bool.{Bool, true, false, cond, ◌&&◌}
-use mathlib.Core.List.{List, []}
-use native.Mathlib.Omega.{arith}
-use borrow.Author.Tests.{ne_eqb, ltb-false}
-use lib.Dec.{eqb, ltb}
-use lib.ListN.{length}
+use Rattle.std.proofs.Common.{ℕ, ◌+◌, ◌≤◌, ◌%◌, ◌≡◌, refl, sym, ap, ◌∙◌, Bool, true, false, cond, ◌&&◌, List, [], arith, ne_eqb, ltb-false, eqb, ltb}
+use Rattle.std.proofs.Common.{length}
+use Rattle.cdf_refusal.specs.Numbers.{number_of}
+use Rattle.cdf_refusal.specs.declared.Refusal.{Refusal}
+use Rattle.cdf_refusal.specs.declared.Refusal.TheVariants.{Place}
+use Rattle.cdf_refusal.proofs.Apart.{refuses}
 use Rattle.cdf_unit_table.specs.States.{nothing}
 use Rattle.cdf_unit_prefix.specs.Layout.{Layout, layout_of, prefix_of}
 use Rattle.cdf_unit_prefix.specs.declared.Edition.TheVariants.{First}
@@ -32,9 +30,8 @@ use Rattle.cdf_batch_spec.specs.Batches.{from}
 use Rattle.cdf_batch_spec.proofs.Staged.{unbounded_some}
 use Rattle.cdf_batch_spec.proofs.Judging.{judged_is}
 use Rattle.cdf_batch_turn.specs.declared.PlaceNumbers.{PlaceNumbers}
-use Rattle.cdf_batch_turn.specs.declared.Ran.{Ran}
 use Rattle.cdf_batch_turn.specs.Numbers.{viewed, parts_from, numbers_from}
-use Rattle.cdf_batch_turn.specs.Passes.{part, crowded, pass_number, Going, going, put, settled, turn_of}
+use Rattle.cdf_batch_turn.specs.Passes.{part, crowded, pass_number, Going, going, stopped, put, settled, turn_of}
 use Rattle.cdf_batch_turn.proofs.Steady.{crowded_is, number_bad, number_good, number_taken}
 
 and_false : (b : Bool) → (b && false) ≡ false
@@ -125,38 +122,34 @@ module _ (l : Layout) (text : List ℕ) (g : Going) (rank : ℕ) (r : UnitReques
         )
 
 -- The code's turns: p is what the numbers are.
-module _ (text s : List ℕ) (ran : Ran) (rank : ℕ) (r : UnitRequest) (zero : ran.number ≡ 0) (p : Parts) (parts : p ≡ parts_from ran.place) where
+module _ (text s : List ℕ) (w : Bool) (place : PlaceNumbers) (rank : ℕ) (r : UnitRequest) (p : Parts) (parts : p ≡ parts_from place) where
   abbrev l₁ : Layout
   l₁ = layout_of First
 
-  abbrev here : Parts → Going
-  here x = record { writing = ran.writing; number = ran.number; rank = ran.rank; place = placed x; buffer = s }
+  abbrev due_of : Going
+  due_of = turn_of l₁ text (going w (viewed place) s) rank r
 
   abbrev told : ℕ
-  told = pass_number l₁ ran.writing (length s) text (placed p) r
+  told = pass_number l₁ w (length s) text (placed p) r
 
-  there : turn_of l₁ text (here p) rank r ≡ turn_of l₁ text (going ran s) rank r
-  there = ap (λ (x : Parts). turn_of l₁ text (here x) rank r) parts
+  there : turn_of l₁ text (going w (placed p) s) rank r ≡ due_of
+  there = ap (λ (x : Parts). turn_of l₁ text (going w (placed x) s) rank r) parts
 
-  pub refused : (m : ℕ) → told ≡ m → (m ≡ 0 → ⊥) →
-      going (record { writing = ran.writing; number = m; rank = rank; place = ran.place }) s ≡ turn_of l₁ text (going ran s) rank r
-  refused m e some =
-      ap (λ (x : Parts). refusing x) (sym parts) ∙ sym (turn_refused l₁ text (here p) rank r zero m e some) ∙ there
-    where
-      refusing : Parts → Going
-      refusing x = record { writing = ran.writing; number = m; rank = rank; place = placed x; buffer = s }
+  pub refused : (e : Refusal) → told ≡ number_of e → stopped w (viewed place) e rank s ≡ due_of
+  refused e is =
+      ap (λ (x : Parts). stopped w (placed x) e rank s) (sym parts)
+      ∙ sym (turn_refused l₁ text (going w (placed p) s) rank r refl (number_of e) is (refuses e)) ∙ there
 
   -- So many units are left open, with this one the innermost.
-  module _ (count : ℕ) (top : Begun) (left : units count top p.o1 p.o2 p.o3 ≡ advanced r.id (joining r.id (placed p).units))
+  module _ (count : ℕ) (top : Begun) (left : units count top p.units.o1 p.units.o2 p.units.o3 ≡ advanced r.id (joining r.id (placed p).units))
       (first : ℕ) (is : first ≡ nothing r.id) where
     abbrev full : Bool
     full = cond (eqb first 0) (ltb 4 count) (ltb 3 count)
 
     -- More than there are slots for.
     pub crowding : told ≡ cond (crowded l₁ text (placed p) r) 2 0 → full ≡ true →
-        going (record { writing = ran.writing; number = 2; rank = rank; place = ran.place }) s ≡ turn_of l₁ text (going ran s) rank r
-    crowding e many =
-        refused 2 (e ∙ rw (sym (crowded_is l₁ text p r count top left first is) ∙ many)) (λ z. omega arith)
+        stopped w (viewed place) Place rank s ≡ due_of
+    crowding e many = refused Place (e ∙ rw (sym (crowded_is l₁ text p r count top left first is) ∙ many))
 
     module _ (j : join_number (placed p).units r.id 0 ≡ 0) (few : full ≡ false)
         (size : ℕ) (sized : size ≡ prefix_of l₁ + length (part text r)) (after : Parts)
@@ -177,22 +170,18 @@ module _ (text s : List ℕ) (ran : Ran) (rank : ℕ) (r : UnitRequest) (zero : 
       open_slots : crowded l₁ text (placed p) r ≡ false
       open_slots = sym (crowded_is l₁ text p r count top left first is) ∙ few
 
-      four : after.count ≤ 4
+      four : after.units.count ≤ 4
       four =
           let most = ltb-false 4 (length due.units) open_slots in
-          let counted = length_held no_begun after.count after.top after.o1 after.o2 after.o3 in
+          let counted = length_held no_begun after.units.count after.units.top after.units.o1 after.units.o2 after.units.o3 in
           omega (arith, most, counted, ap (λ (q : BuilderPlace). length q.units) grew)
 
       abbrev wrote : BuilderPlace → List ℕ
-      wrote q = cond ran.writing (write_of l₁ p.written q (unit_bytes l₁ (r.id % 256) (r.action % 256) (part text r) []) s) s
+      wrote q = cond w (write_of l₁ p.written q (unit_bytes l₁ (r.id % 256) (r.action % 256) (part text r) []) s) s
 
-      abbrev ends : BuilderPlace → List ℕ → Going
-      ends q t = record { writing = ran.writing; number = 0; rank = 0; place = q; buffer = t }
-
-      pub built : told ≡ cond (crowded l₁ text (placed p) r) 2 0 → (place : PlaceNumbers) → place ≡ numbers_from after →
-          (t : List ℕ) → t ≡ wrote (held after) →
-          going (record { writing = ran.writing; number = 0; rank = 0; place = place }) t ≡ turn_of l₁ text (going ran s) rank r
-      built number place numbers t e =
-          ap (λ (x : PlaceNumbers). ends (viewed x) t) numbers ∙ ap (λ (q : BuilderPlace). ends q t) grew
-          ∙ ap (ends due) (e ∙ ap wrote (held_few after four ∙ grew))
-          ∙ sym (turn_done l₁ text (here p) rank r zero (number ∙ rw open_slots)) ∙ there
+      pub built : told ≡ cond (crowded l₁ text (placed p) r) 2 0 → (q : PlaceNumbers) → q ≡ numbers_from after →
+          (t : List ℕ) → t ≡ wrote (held after) → going w (viewed q) t ≡ due_of
+      built number q numbers t e =
+          ap (λ (x : PlaceNumbers). going w (viewed x) t) numbers ∙ ap (λ (x : BuilderPlace). going w x t) grew
+          ∙ ap (going w due) (e ∙ ap wrote (held_few after four ∙ grew))
+          ∙ sym (turn_done l₁ text (going w (placed p) s) rank r refl (number ∙ rw open_slots)) ∙ there

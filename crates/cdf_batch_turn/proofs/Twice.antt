@@ -1,12 +1,11 @@
 -- The two passes come to what a list is due: the first to the number and the rank, the second to place and bytes.
-use Prim.Native.Nat.{ℕ, suc}
-use mathlib.Core.Path.{◌≡◌, refl, sym, ap, ◌∙◌}
-use mathlib.Core.Bool.{Bool, true, false}
-use mathlib.Core.List.{List, [], ◌∷◌}
-use native.Mathlib.Omega.{arith}
-use borrow.Author.Tests.{eqb-true, eqb-false, ne_eqb, eq-eqb, ltb-true, ltb-false}
-use lib.Dec.{eqb, ltb}
-use lib.ListN.{length}
+use Rattle.std.proofs.Common.{ℕ, suc, ◌≡◌, refl, sym, ap, ◌∙◌, Bool, true, false, List, [], ◌∷◌, arith, eqb-true, ne_eqb, ltb-true, ltb-false, eqb}
+use Rattle.std.proofs.Common.{ltb, length}
+use Rattle.std.proofs.lemmas.Bool.{eqb-false}
+use Rattle.std.specs.Prelude.{Result, Ok, Err}
+use Rattle.cdf_refusal.specs.Numbers.{number_of}
+use Rattle.cdf_refusal.specs.declared.Refusal.{Refusal}
+use Rattle.cdf_refusal.proofs.Apart.{refuses}
 use Rattle.cdf_unit_prefix.specs.Layout.{Layout, layout_of}
 use Rattle.cdf_unit_prefix.specs.declared.Edition.TheVariants.{First}
 use Rattle.cdf_builder_spec.specs.Place.{BuilderPlace, fits}
@@ -22,10 +21,9 @@ use Rattle.cdf_batch_spec.proofs.Judging.{refused_is, refused_none, judged_good,
 use Rattle.cdf_batch_spec.proofs.Walking.{calls}
 use Rattle.cdf_batch_spec.proofs.Proved.{told_unfit, told_many, told_first, batch_is, number_is, built, singly}
 use Rattle.cdf_batch_turn.specs.declared.PlaceNumbers.{PlaceNumbers}
-use Rattle.cdf_batch_turn.specs.declared.Batched.{Batched}
-use Rattle.cdf_batch_turn.specs.declared.Ran.{Ran}
+use Rattle.cdf_batch_turn.specs.declared.Refused.{Refused}
 use Rattle.cdf_batch_turn.specs.Numbers.{viewed, outcome_of}
-use Rattle.cdf_batch_turn.specs.Passes.{Going, going, turn_of, pass_of, begun_number, begun_of, second_of, batched_of}
+use Rattle.cdf_batch_turn.specs.Passes.{Going, going, turn_of, pass_of, begun_number, from_place, passed, batched_of}
 use Rattle.cdf_batch_turn.proofs.Turning.{turn_still, tells, turn_judges, turn_calls}
 
 -- Of calls that are all done the last is.
@@ -48,7 +46,7 @@ module _ (l : Layout) (text : List ℕ) where
   pass_none g k = refl
 
   -- After a refusal a pass does nothing.
-  pass_still : (g : Going) → (g.number ≡ 0 → ⊥) → (k : ℕ) (rs : List UnitRequest) → pass_of l text g k rs ≡ g
+  pub pass_still : (g : Going) → (g.number ≡ 0 → ⊥) → (k : ℕ) (rs : List UnitRequest) → pass_of l text g k rs ≡ g
   pass_still g some k [] = pass_none g k
   pass_still g some k (r ∷ rs) =
       pass_cons g k r rs ∙ ap (λ (x : Going). pass_of l text x (suc k) rs) (turn_still l text g k r some) ∙ pass_still g some (suc k) rs
@@ -113,25 +111,28 @@ module _ (l : Layout) (text : List ℕ) where
       ∙ ap (λ (g : Going). pass_of l text g (suc k) rs) (turn_calls l text (writing a) k r d.0 b.0 done refl)
       ∙ second_pass (answer l a (asked text r)) rs (suc k) b.1 d.1
 
--- All that is done with a list: what comes before the passes, the first, what comes between them, the second, and what is told.
+-- All that is done with a list: what comes before the passes, the first, and the second.
 module _ (p : PlaceNumbers) (s text : List ℕ) (rs : List UnitRequest) where
   abbrev l₁ : Layout
   l₁ = layout_of First
 
   -- Where the first pass begins and ends.
-  abbrev begins : Going
-  begins = going (begun_of p (length s) (length rs)) s
+  abbrev begins : ℕ → Going
+  begins n = record { writing = false; number = n; rank = 0; place = viewed p; buffer = s }
+
+  abbrev before : ℕ
+  before = begun_number p (length s) (length rs)
 
   abbrev decides : Going
-  decides = pass_of l₁ text begins 0 rs
+  decides = pass_of l₁ text (begins before) 0 rs
 
   abbrev due : Told
   due = told_of l₁ (length s) text (viewed p) rs
 
   -- It begins with a number other than 0, and nothing is done;
-  stopped : (n : ℕ) → begun_number p (length s) (length rs) ≡ n → (n ≡ 0 → ⊥) → due ≡ record { number = n; rank = 0 } → Tells l₁ text decides due s
-  stopped n is some e =
-      rw (pass_still l₁ text begins (λ z. some (sym is ∙ z)) 0 rs, is, e) (refl, refl)
+  halted : (n : ℕ) → before ≡ n → (n ≡ 0 → ⊥) → due ≡ record { number = n; rank = 0 } → Tells l₁ text decides due s
+  halted n is some e =
+      rw (pass_still l₁ text (begins before) (λ z. some (sym is ∙ z)) 0 rs, is, e) (refl, refl)
 
   -- or with 0, and it tells what is due.
   decided : Tells l₁ text decides due s
@@ -139,67 +140,76 @@ module _ (p : PlaceNumbers) (s text : List ℕ) (rs : List UnitRequest) where
     where
       few : (b : Bool) → fits l₁ (length s) (viewed p) ≡ true → ltb 512 (length rs) ≡ b → Tells l₁ text decides due s
       few true e c =
-          stopped 21 (rw (e, c)) (λ z. omega arith) (told_many l₁ s text (viewed p) rs e (ltb-true 512 (length rs) c))
+          halted 21 (rw (e, c)) (λ z. omega arith) (told_many l₁ s text (viewed p) rs e (ltb-true 512 (length rs) c))
       few false e c =
-          let zero : begun_number p (length s) (length rs) ≡ 0 = rw (e, c) in
+          let zero : before ≡ 0 = rw (e, c) in
           rw (zero, told_first l₁ s text (viewed p) rs e (ltb-false 512 (length rs) c)) (first_pass l₁ text s (viewed p) e rs 0)
 
       by : (b : Bool) → fits l₁ (length s) (viewed p) ≡ b → Tells l₁ text decides due s
       by true e = few (ltb 512 (length rs)) e refl
-      by false e = stopped 2 (rw e) (λ z. omega arith) (told_unfit l₁ s text (viewed p) rs e)
+      by false e = halted 2 (rw e) (λ z. omega arith) (told_unfit l₁ s text (viewed p) rs e)
 
-  module _ (r1 : Ran) (s1 : List ℕ) (first : going r1 s1 ≡ decides) where
-    told : told_by (going r1 s1) ≡ due
-    told = ap told_by first ∙ decided.0
+  -- Of a list that is refused, number and rank are told, and the place that was given.
+  none : (m k : ℕ) → record { number = m; rank = k } ≡ due → (m ≡ 0 → ⊥) →
+      record { number = m; rank = k; place = viewed p; buffer = s } ≡ batch_of l₁ s text (viewed p) rs
+  none m k e some =
+      let number : m ≡ due.number = ap (λ (t : Told). t.number) e in
+      let other = ne_eqb due.number 0 (λ z. some (number ∙ z)) in
+      ap (λ t. same_as t) e ∙ sym (batch_is l₁ s text (viewed p) rs ∙ rw other)
+    where
+      same_as : Told → Outcome
+      same_as t = record { number = t.number; rank = t.rank; place = viewed p; buffer = s }
 
-    left : s1 ≡ s
-    left = ap (λ (g : Going). g.buffer) first ∙ decided.1
+  -- It is refused before the passes,
+  pub unbegun : (e : Refusal) → number_of e ≡ before →
+      outcome_of (batched_of p (Err (record { refusal = e; rank = 0 }))) s ≡ batch_of l₁ s text (viewed p) rs
+  unbegun e is =
+      let still : decides ≡ begins before = pass_still l₁ text (begins before) (λ z. refuses e (is ∙ z)) 0 rs in
+      none (number_of e) 0 (ap (λ (n : ℕ). told_by (begins n)) is ∙ ap told_by (sym still) ∙ decided.0) (refuses e)
 
-    -- A refusal: the second pass does nothing, and the place that was given is told.
-    none : (r1.number ≡ 0 → ⊥) → outcome_of (record { number = r1.number; rank = r1.rank; place = p }) s ≡ batch_of l₁ s text (viewed p) rs
-    none some =
-        let number = ap (λ (t : Told). t.number) told in
-        let other = ne_eqb due.number 0 (λ z. some (number ∙ z)) in
-        ap (λ (t : Told). same_as t) told ∙ sym (batch_is l₁ s text (viewed p) rs ∙ rw other)
-      where
-        same_as : Told → Outcome
-        same_as t = record { number = t.number; rank = t.rank; place = viewed p; buffer = s }
+  module _ (zero : 0 ≡ before) where
+    abbrev first : Going
+    first = from_place (viewed p) (pass_of l₁ text (going false (viewed p) s) 0 rs)
 
-    -- No refusal: the second pass makes the single calls.
-    all : r1.number ≡ 0 → (r3 : Ran) (s3 : List ℕ) →
-        going r3 s3 ≡ pass_of l₁ text (going (record { writing = true; number = 0; rank = 0; place = p }) s1) 0 rs →
-        (r3.number ≡ 0) × (outcome_of (record { number = r3.number; rank = r3.rank; place = r3.place }) s3 ≡ batch_of l₁ s text (viewed p) rs)
-    all zero r3 s3 second =
-        let z : (batch_of l₁ s text (viewed p) rs).number ≡ 0
-        = number_is l₁ s text (viewed p) rs ∙ sym (ap (λ (t : Told). t.number) told) ∙ zero in
-        let taken = ((built l₁ s text (viewed p) rs).0 z).2 in
-        let made : going r3 s3 ≡ writing l₁ text (single_calls l₁ s text (viewed p) rs)
-        = second ∙ rw left (second_pass l₁ text (from (viewed p) s) rs 0 taken.bounds taken.calls) in
-        let last = last_done l₁ (from (viewed p) s) (calls l₁ text rs) taken.calls in (
-          ap (λ (g : Going). g.number) made ∙ last,
-          ap (λ (g : Going). outcome g) made ∙ rw last (sym (singly l₁ s text (viewed p) rs z)),
-        )
-      where
-        outcome : Going → Outcome
-        outcome g = record { number = g.number; rank = g.rank; place = g.place; buffer = g.buffer }
+    same : first ≡ from_place (viewed p) decides
+    same = ap (λ (n : ℕ). from_place (viewed p) (pass_of l₁ text (begins n) 0 rs)) zero
 
-    module _ (r2 : Ran) (between : r2 ≡ second_of p r1) (r3 : Ran) (s3 : List ℕ) (second : going r3 s3 ≡ pass_of l₁ text (going r2 s1) 0 rs)
-        (q : Batched) (behind : q ≡ batched_of p r3) where
-      -- What is told is what is due, and beside a number other than 0 the very place.
-      pub twice : (outcome_of q s3 ≡ batch_of l₁ s text (viewed p) rs) × ((q.number ≡ 0 → ⊥) → q.place ≡ p)
-      twice = rw behind (by (eqb r1.number 0) refl, λ some. rw (ne_eqb r3.number 0 some))
+    told : told_by first ≡ due
+    told = ap told_by same ∙ decided.0
+
+    still : first.buffer ≡ s
+    still = ap (λ (g : Going). g.buffer) same ∙ decided.1
+
+    -- or in the first,
+    pub unjudged : (e : Refused) (s1 : List ℕ) → passed false (viewed p) (Err e) s1 ≡ first →
+        outcome_of (batched_of p (Err e)) s1 ≡ batch_of l₁ s text (viewed p) rs
+    unjudged e s1 one =
+        let buffer : s1 ≡ s = ap (λ (g : Going). g.buffer) one ∙ still in
+        rw buffer (none (number_of e.refusal) e.rank (ap told_by one ∙ told) (refuses e.refusal))
+
+    -- or built: the second pass makes the single calls.
+    module _ (q : PlaceNumbers) (s1 : List ℕ) (one : passed false (viewed p) (Ok q) s1 ≡ first) where
+      made : from_place (viewed p) (pass_of l₁ text (going true (viewed p) s1) 0 rs)
+          ≡ going true (single_calls l₁ s text (viewed p) rs).place (single_calls l₁ s text (viewed p) rs).buffer
+      made =
+          let buffer : s1 ≡ s = ap (λ (g : Going). g.buffer) one ∙ still in
+          let done : (batch_of l₁ s text (viewed p) rs).number ≡ 0
+          = number_is l₁ s text (viewed p) rs ∙ sym (ap (λ (t : Told). t.number) (ap told_by one ∙ told)) in
+          let taken = ((built l₁ s text (viewed p) rs).0 done).2 in
+          rw (
+            buffer,
+            second_pass l₁ text (from (viewed p) s) rs 0 taken.bounds taken.calls,
+            last_done l₁ (from (viewed p) s) (calls l₁ text rs) taken.calls,
+          )
+
+      pub twice : (r : Result PlaceNumbers Refused) (s2 : List ℕ) →
+          passed true (viewed p) r s2 ≡ from_place (viewed p) (pass_of l₁ text (going true (viewed p) s1) 0 rs) →
+          outcome_of (batched_of p r) s2 ≡ batch_of l₁ s text (viewed p) rs
+      twice (Ok a) s2 two =
+          ap (λ (g : Going). outcome g) (two ∙ made)
+          ∙ sym (singly l₁ s text (viewed p) rs
+          (number_is l₁ s text (viewed p) rs ∙ sym (ap (λ (t : Told). t.number) (ap told_by one ∙ told))))
         where
-          by : (b : Bool) → eqb r1.number 0 ≡ b → outcome_of (batched_of p r3) s3 ≡ batch_of l₁ s text (viewed p) rs
-          by true e =
-              let ready : r2 ≡ record { writing = true; number = 0; rank = 0; place = p } = between ∙ rw e in
-              let w = all (eqb-true r1.number 0 e) r3 s3 (second ∙ ap (λ (x : Ran). pass_of l₁ text (going x s1) 0 rs) ready) in
-              rw (eq-eqb r3.number 0 w.0) w.1
-          by false e =
-              let some = eqb-false r1.number 0 e in
-              let still : r2 ≡ r1 = between ∙ rw e in
-              let same : going r3 s3 ≡ going r1 s1
-              = second ∙ ap (λ (x : Ran). pass_of l₁ text (going x s1) 0 rs) still ∙ pass_still l₁ text (going r1 s1) some 0 rs in
-              let number = ap (λ (g : Going). g.number) same in
-              let rank = ap (λ (g : Going). g.rank) same in
-              let buffer : s3 ≡ s = ap (λ (g : Going). g.buffer) same ∙ left in
-              rw (ne_eqb r3.number 0 (λ z. some (sym number ∙ z)), number, rank, buffer) (none some)
+          outcome : Going → Outcome
+          outcome g = record { number = g.number; rank = g.rank; place = g.place; buffer = g.buffer }
+      twice (Err e) s2 two = absurd (refuses e.refusal (ap (λ (g : Going). g.number) (two ∙ made)))

@@ -11,11 +11,13 @@ use Rattle.cdf_batch_turn.specs.declared.Batched.{Batched}
 abbrev pub builder_from : PlaceNumbers → Builder
 builder_from p = record {
   written = p.written;
-  count = p.count;
-  top = record { state = p.state; start = p.start };
-  o1 = record { state = p.state1; start = p.start1 };
-  o2 = record { state = p.state2; start = p.start2 };
-  o3 = record { state = p.state3; start = p.start3 };
+  units = record {
+    count = p.count;
+    top = record { state = p.state; start = p.start };
+    o1 = record { state = p.state1; start = p.start1 };
+    o2 = record { state = p.state2; start = p.start2 };
+    o3 = record { state = p.state3; start = p.start3 };
+  };
 }
 
 -- The place that they are.
@@ -26,20 +28,20 @@ viewed p = view (builder_from p)
 abbrev pub parts_from : PlaceNumbers → Parts
 parts_from p =
     let b : Builder = builder_from p in
-    record { written = b.written; count = b.count; top = b.top; o1 = b.o1; o2 = b.o2; o3 = b.o3 }
+    record { written = b.written; units = b.units }
 
 abbrev pub numbers_from : Parts → PlaceNumbers
 numbers_from p = record {
   written = p.written;
-  count = p.count;
-  state = p.top.state;
-  start = p.top.start;
-  state1 = p.o1.state;
-  start1 = p.o1.start;
-  state2 = p.o2.state;
-  start2 = p.o2.start;
-  state3 = p.o3.state;
-  start3 = p.o3.start;
+  count = p.units.count;
+  state = p.units.top.state;
+  start = p.units.top.start;
+  state1 = p.units.o1.state;
+  start1 = p.units.o1.start;
+  state2 = p.units.o2.state;
+  start2 = p.units.o2.start;
+  state3 = p.units.o3.state;
+  start3 = p.units.o3.start;
 }
 
 -- What a list is told, with the buffer as it then is.

@@ -1,14 +1,20 @@
 // What is done with one request of a list, and before and behind its two passes: all that the loop over the list calls.
 #![tactic(auto)]
 
-ghost use Rattle.std.specs.Prelude.{◌≡◌, cond, [], ◌%◌, eqb, ltb};
+ghost use Rattle.std.specs.Prelude.{ℕ, ◌≡◌, true, false, cond, [], ◌%◌, eqb, ltb};
+ghost use Rattle.std.specs.Result.{IfOk, IfErr};
+ghost use Rattle.cdf_refusal.specs.Numbers.{number_of};
+ghost use Rattle.cdf_unit_table.specs.Ids.{action_allowed};
+ghost use Rattle.cdf_unit_table.specs.States.{some_state};
 ghost use Rattle.cdf_unit_prefix.specs.Layout.{layout_of};
 ghost use Rattle.cdf_unit_prefix.specs.declared.Edition.TheVariants.{First};
 ghost use Rattle.cdf_grammar.specs.Encoding.{unit_bytes};
 ghost use Rattle.cdf_builder_spec.specs.Calls.{write_of};
+ghost use Rattle.cdf_builder_spec.specs.Told.{told};
 ghost use Rattle.cdf_builder_append.specs.Held.{held};
-ghost use Rattle.cdf_batch_turn.specs.Numbers.{parts_from, numbers_from};
-ghost use Rattle.cdf_batch_turn.specs.Passes.{or_else, fault_of, begun_of, going, turn_of, second_of, batched_of};
+ghost use Rattle.cdf_batch_spec.specs.Asking.{bounded};
+ghost use Rattle.cdf_batch_turn.specs.Numbers.{viewed, parts_from, numbers_from};
+ghost use Rattle.cdf_batch_turn.specs.Passes.{writes, part, within, begun_number, going, turned, turn_of, batched_of};
 
 use cdf_batch_spec::UnitRequest;
 use cdf_builder_append::append_unit;
@@ -17,11 +23,13 @@ use cdf_builder_faults::{own_fault, room};
 use cdf_builder_fit::is_fit;
 use cdf_builder_join::join;
 use cdf_builder_spec::{Begun, Parts};
+use cdf_open_units::OpenUnits;
+use cdf_refusal::Refusal;
 use cdf_unit_prefix::{Edition, limit, prefix};
 use cdf_unit_table::{action_allowed, first_state, is_known};
 
 // The ten numbers of a builder's place: the bytes written; how many units are open; state and start of the innermost, then of the
-// others from the root inwards.
+// others from the root inwards. It is the struct of the C interface.
 #[repr(C)]
 #[derive(Clone, Copy)]
 pub struct PlaceNumbers {
@@ -37,7 +45,7 @@ pub struct PlaceNumbers {
     pub start3: usize,
 }
 
-// What a list is told: the number, the rank of the request that it is of, and the new place.
+// What a list is told: the number, the rank of the request that it is of, and the new place. C's layout: the number is 0 or a refusal's.
 #[repr(C)]
 #[derive(Clone, Copy)]
 pub struct Batched {
@@ -46,250 +54,195 @@ pub struct Batched {
     pub place: PlaceNumbers,
 }
 
-// Where a pass over the list stands: whether it writes, the number of the first request that was refused with its rank, and the place.
+// A list is gone through twice: nothing is written before every request is judged. Two tests of a pass go by its name: a trait for them would be two
+// impls of two functions.
 #[derive(Clone, Copy)]
-pub struct Ran {
-    pub writing: bool,
-    pub number: usize,
+pub enum Pass {
+    Judging,
+    Writing,
+}
+
+// Why a list is refused, and the rank of the request that is.
+#[derive(Clone, Copy)]
+pub struct Refused {
+    pub refusal: Refusal,
     pub rank: usize,
-    pub place: PlaceNumbers,
+}
+
+// A list that is refused before any request is looked at.
+impl From<Refusal> for Refused {
+    ghost from_gives = { λ r e. e ≡ record { refusal = r; rank = 0 } };
+
+    fn from(refusal: Refusal) -> Refused {
+        Refused { refusal, rank: 0 }
+    }
 }
 
 const MOST: usize = 512;
 
 // What is told where more units would be open than there are slots: that the place does not fit.
-const NO_SLOT: usize = 2;
+const NO_SLOT: Refusal = Refusal::Place;
 
-// The parts of the place that the numbers are.
-fn parts_from(p: PlaceNumbers) -> Parts
-    ensures { result ≡ parts_from p }
-{
-    let top = Begun {
-        state: p.state,
-        start: p.start,
-    };
-    let o1 = Begun {
-        state: p.state1,
-        start: p.start1,
-    };
-    let o2 = Begun {
-        state: p.state2,
-        start: p.start2,
-    };
-    let o3 = Begun {
-        state: p.state3,
-        start: p.start3,
-    };
-    Parts {
-        written: p.written,
-        count: p.count,
-        top,
-        o1,
-        o2,
-        o3,
-    }
-}
+// The parts of the place that the numbers are,
+impl From<PlaceNumbers> for Parts {
+    ghost from_gives = { λ n p. p ≡ parts_from n };
 
-// The numbers of a place.
-fn numbers_from(p: Parts) -> PlaceNumbers
-    ensures { result ≡ numbers_from p }
-{
-    PlaceNumbers {
-        written: p.written,
-        count: p.count,
-        state: p.top.state,
-        start: p.top.start,
-        state1: p.o1.state,
-        start1: p.o1.start,
-        state2: p.o2.state,
-        start2: p.o2.start,
-        state3: p.o3.state,
-        start3: p.o3.start,
-    }
-}
-
-// What is asked of a request that joins with this number: that, and 8, 9, 13, 12. A pass that writes asks only what keeps it in bounds.
-fn fault(
-    joined: usize,
-    writing: bool,
-    n: usize,
-    written: usize,
-    r: UnitRequest,
-    text: &[u8],
-) -> usize
-    ensures { result ≡ or_else joined (fault_of (layout_of First) writing n written text.now r) }
-{
-    if joined != 0 {
-        return joined;
-    }
-    let begin = r.begin;
-    let end = r.end;
-    let good = (begin <= end) & (end <= text.len());
-    if !good {
-        if action_allowed(r.id, r.action) {
-            return 9;
+    fn from(p: PlaceNumbers) -> Parts {
+        Parts {
+            written: p.written,
+            units: OpenUnits {
+                count: p.count,
+                top: Begun {
+                    state: p.state,
+                    start: p.start,
+                },
+                o1: Begun {
+                    state: p.state1,
+                    start: p.start1,
+                },
+                o2: Begun {
+                    state: p.state2,
+                    start: p.start2,
+                },
+                o3: Begun {
+                    state: p.state3,
+                    start: p.start3,
+                },
+            },
         }
-        return 8;
     }
-    if limit(Edition::First) < written {
-        return 13;
-    }
-    if writing {
-        return 0;
-    }
-    let own = &text[begin..end];
-    let number = own_fault(r.id, r.action, own);
-    if number != 0 {
-        return number;
-    }
-    let size = prefix(Edition::First) + own.len();
-    let sum = written + size;
-    room(Edition::First, n, sum)
 }
 
-// Whether more units would be open than there are slots: so many, and one in its first state, if that is not 0.
-fn is_crowded(count: usize, first: usize) -> bool
-    ensures { result ≡ cond (eqb first 0) (ltb 4 count) (ltb 3 count) }
+// and the numbers of a place.
+impl From<Parts> for PlaceNumbers {
+    ghost from_gives = { λ p n. n ≡ numbers_from p };
+
+    fn from(p: Parts) -> PlaceNumbers {
+        PlaceNumbers {
+            written: p.written,
+            count: p.units.count,
+            state: p.units.top.state,
+            start: p.units.top.start,
+            state1: p.units.o1.state,
+            start1: p.units.o1.start,
+            state2: p.units.o2.state,
+            start2: p.units.o2.start,
+            state3: p.units.o3.state,
+            start3: p.units.o3.start,
+        }
+    }
+}
+
+// The part of the text that a request names, if its bounds are good: else OwnData, or Action where the action is not allowed.
+fn own_of(r: UnitRequest, text: &[u8]) -> Result<&[u8], Refusal>
+    ensures ok { IfOk result (λ own. (bounded text.now r ≡ true) × (own.now ≡ part text.now r)) }
+    ensures err { IfErr result (λ e. (bounded text.now r ≡ false) × (number_of e ≡ cond (action_allowed r.id r.action) 9 8)) }
 {
-    if first == 0 {
-        return 4 < count;
-    }
-    3 < count
+    let Some(own) = text.get(r.begin..r.end) else {
+        if action_allowed(r.id, r.action) {
+            return Err(Refusal::OwnData);
+        }
+        return Err(Refusal::Action);
+    };
+    Ok(own)
 }
 
-// Writes the unit and the lengths of those that are then open, in a pass that writes.
-fn write(writing: bool, buffer: &mut [u8], at: usize, p: Parts, r: UnitRequest, own: &[u8])
-    ensures { buffer.new ≡ cond writing
+// What else is asked of a request that joins: Action, OwnData, TooLong, NoRoom. A pass that writes asks only what keeps it in bounds.
+fn fault(pass: Pass, n: usize, written: usize, r: UnitRequest, own: &[u8]) -> Result<(), Refusal>
+    ensures { told result ≡ within (layout_of First) (writes pass) n written r own.now }
+{
+    if limit(Edition::First) < written {
+        return Err(Refusal::TooLong);
+    }
+    match pass {
+        Pass::Writing => Ok(()),
+        Pass::Judging => {
+            let size = prefix(Edition::First) + own.len();
+            own_fault(r.id, r.action, own)?;
+            room(Edition::First, n, written + size)
+        }
+    }
+}
+
+// Whether more units would be open than there are slots: so many, and one more if it has a first state.
+fn is_crowded(count: usize, first: Option<usize>) -> bool
+    ensures { (k : ℕ) → first ≡ some_state k → result ≡ cond (eqb k 0) (ltb 4 count) (ltb 3 count) }
+{
+    match first {
+        None => 4 < count,
+        Some(_) => 3 < count,
+    }
+}
+
+// Writes the unit and the lengths of those that are then open, in the pass that writes. Its promise is for any request, so the casts take % 256.
+fn write(pass: Pass, buffer: &mut [u8], at: usize, p: Parts, r: UnitRequest, own: &[u8])
+    ensures { buffer.new ≡ cond (writes pass)
         (write_of (layout_of First) at (held p) (unit_bytes (layout_of First) (r.id % 256) (r.action % 256) own.now []) buffer.old)
         buffer.old }
 {
-    if !writing {
-        return;
-    }
-    let id = (r.id % 256) as u8;
-    let action = (r.action % 256) as u8;
-    append_unit(Edition::First, buffer, at, p, id, action, own);
-}
-
-// Before the first pass: 2 and 21.
-pub fn begun(place: PlaceNumbers, n: usize, count: usize) -> Ran
-    ensures { result ≡ begun_of place n count }
-{
-    let parts = parts_from(place);
-    let fit = is_fit(Edition::First, n, parts);
-    let many = MOST < count;
-    if !fit {
-        return Ran {
-            writing: false,
-            number: 2,
-            rank: 0,
-            place,
-        };
-    }
-    if many {
-        return Ran {
-            writing: false,
-            number: 21,
-            rank: 0,
-            place,
-        };
-    }
-    Ran {
-        writing: false,
-        number: 0,
-        rank: 0,
-        place,
+    if let Pass::Writing = pass {
+        let id = (r.id % 256) as u8;
+        let action = (r.action % 256) as u8;
+        append_unit(Edition::First, buffer, at, p, id, action, own);
     }
 }
 
-// The request of this rank: judged in the first pass, written in the second. After a refusal nothing is done. Whether the place fits is not
-// asked: it did before the first pass, and a request that is taken leaves one that does.
-pub fn turn(ran: Ran, buffer: &mut [u8], rank: usize, r: UnitRequest, text: &[u8]) -> Ran
-    ensures { going result buffer.new ≡ turn_of (layout_of First) text.now (going ran buffer.old) rank r }
+// Before the first pass: whether the place fits, and whether there are not too many requests.
+pub fn begun(place: PlaceNumbers, n: usize, count: usize) -> Result<(), Refusal>
+    ensures { told result ≡ begun_number place n count }
 {
-    if ran.number != 0 {
-        return ran;
+    if !is_fit(Edition::First, n, Parts::from(place)) {
+        return Err(Refusal::Place);
     }
-    let writing = ran.writing;
-    let here = ran.place;
-    let p = parts_from(here);
-    let top = p.top;
-    let o1 = p.o1;
-    let o2 = p.o2;
-    let o3 = p.o3;
+    if MOST < count {
+        return Err(Refusal::TooManyRequests);
+    }
+    Ok(())
+}
+
+// A request, of any rank: judged in the first pass, written in the second. Whether the place fits is not asked: it did before the first
+// pass, and a request that is taken leaves one that does.
+pub fn turn(
+    pass: Pass,
+    place: PlaceNumbers,
+    buffer: &mut [u8],
+    r: UnitRequest,
+    text: &[u8],
+) -> Result<PlaceNumbers, Refusal>
+    ensures { (rank : ℕ) → turned (writes pass) (viewed place) rank result buffer.new
+        ≡ turn_of (layout_of First) text.now (going (writes pass) (viewed place) buffer.old) rank r }
+{
+    let p = Parts::from(place);
     if !is_known(r.id) {
-        return Ran {
-            writing,
-            number: 6,
-            rank,
-            place: here,
-        };
+        return Err(Refusal::UnknownId);
     }
-    let left = join(r.id, p.count, top, o1, o2, o3);
-    let number = fault(left.number, writing, buffer.len(), p.written, r, text);
-    if number != 0 {
-        return Ran {
-            writing,
-            number,
-            rank,
-            place: here,
-        };
-    }
+    let left = join(r.id, p.units)?;
+    let own = own_of(r, text)?;
+    fault(pass, buffer.len(), p.written, r, own)?;
     let first = first_state(r.id);
     if is_crowded(left.count, first) {
-        return Ran {
-            writing,
-            number: NO_SLOT,
-            rank,
-            place: here,
-        };
+        return Err(NO_SLOT);
     }
-    let from = r.begin;
-    let to = r.end;
-    let own = &text[from..to];
     let size = prefix(Edition::First) + own.len();
-    let sum = p.written + size;
-    let after = enter(p, left, sum, first);
-    write(writing, buffer, p.written, after, r, own);
-    let place = numbers_from(after);
-    Ran {
-        writing,
-        number: 0,
-        rank: 0,
-        place,
-    }
+    let after = enter(p, left, p.written + size, first);
+    write(pass, buffer, p.written, after, r, own);
+    Ok(PlaceNumbers::from(after))
 }
 
-// Between the passes: the second begins at the place where the first did.
-pub fn second(place: PlaceNumbers, ran: Ran) -> Ran
-    ensures { result ≡ second_of place ran }
+// Behind the second pass: beside a refusal the place that was given.
+pub fn told(given: PlaceNumbers, built: Result<PlaceNumbers, Refused>) -> Batched
+    ensures { result ≡ batched_of given built }
 {
-    if ran.number != 0 {
-        return ran;
-    }
-    Ran {
-        writing: true,
-        number: 0,
-        rank: 0,
-        place,
-    }
-}
-
-// Behind the second pass: beside a number other than 0 the place that was given.
-pub fn told(given: PlaceNumbers, ran: Ran) -> Batched
-    ensures { result ≡ batched_of given ran }
-{
-    let built = ran.place;
-    if ran.number != 0 {
-        return Batched {
-            number: ran.number,
-            rank: ran.rank,
+    match built {
+        Ok(place) => Batched {
+            number: 0,
+            rank: 0,
+            place,
+        },
+        Err(refused) => Batched {
+            number: refused.refusal.number(),
+            rank: refused.rank,
             place: given,
-        };
-    }
-    Batched {
-        number: 0,
-        rank: ran.rank,
-        place: built,
+        },
     }
 }

@@ -1,9 +1,5 @@
 -- The claims of this crate, proved.
-use Prim.Native.Nat.{ℕ, ◌≤◌}
-use mathlib.Core.Path.{◌≡◌, refl}
-use mathlib.Core.List.{List, [], ◌∷◌}
-use native.Mathlib.Omega.{arith}
-use lib.ListN.{length}
+use Rattle.std.proofs.Common.{ℕ, ◌≤◌, ◌≡◌, refl, List, [], ◌∷◌, arith, length}
 use Rattle.cdf_reader_spec.specs.Slots.{around_of, held_of}
 use Rattle.cdf_builder_spec.specs.declared.Begun.{Begun}
 use Rattle.cdf_builder_spec.specs.Slots.{no_begun}
@@ -18,7 +14,7 @@ zeros = (omega arith, omega arith)
 module _ (written : ℕ) (w : Word written) where
   -- The struct with these units.
   struct : ℕ → Begun → Begun → Begun → Begun → Builder
-  struct count top o1 o2 o3 = record { written = written; count = count; top = top; o1 = o1; o2 = o2; o3 = o3 }
+  struct count top o1 o2 o3 = record { written = written; units = record { count = count; top = top; o1 = o1; o2 = o2; o3 = o3 } }
 
   abbrev Viewed : List Begun → Type 0
   Viewed os = (q : Builder) × StructWords q × (view q ≡ record { written = written; units = os })

@@ -21,8 +21,8 @@ pub record PlaceWords (p : BuilderPlace) : Type 0 where
 
 pub record StructWords (q : Builder) : Type 0 where
   pub written : Word q.written
-  pub count : Word q.count
-  pub top : BegunWords q.top
-  pub o1 : BegunWords q.o1
-  pub o2 : BegunWords q.o2
-  pub o3 : BegunWords q.o3
+  pub count : Word q.units.count
+  pub top : BegunWords q.units.top
+  pub o1 : BegunWords q.units.o1
+  pub o2 : BegunWords q.units.o2
+  pub o3 : BegunWords q.units.o3

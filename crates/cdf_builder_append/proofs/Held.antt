@@ -1,17 +1,12 @@
 -- A count, and how many slots are meant by it.
-use Prim.Native.Nat.{ℕ, ◌≤◌}
-use mathlib.Core.Path.{◌≡◌, refl}
-use mathlib.Core.Bool.{Bool, true, false, cond}
-use native.Mathlib.Omega.{arith}
-use borrow.Author.Tests.{leb-true, le-leb}
-use lib.Dec.{leb}
+use Rattle.std.proofs.Common.{ℕ, ◌≤◌, ◌≡◌, refl, Bool, true, false, cond, arith, leb-true, le-leb, leb}
 use Rattle.cdf_builder_spec.specs.Slots.{placed}
 use Rattle.cdf_builder_spec.specs.declared.Parts.{Parts}
 use Rattle.cdf_builder_append.specs.Held.{held}
 
 -- At most four are all held.
-pub held_few : (p : Parts) → p.count ≤ 4 → held p ≡ placed p
-held_few p few = rw (le-leb p.count 4 few)
+pub held_few : (p : Parts) → p.units.count ≤ 4 → held p ≡ placed p
+held_few p few = rw (le-leb p.units.count 4 few)
 
 module _ (count : ℕ) where
   abbrev slots : ℕ

@@ -6,4 +6,4 @@ use Rattle.cdf_builder_spec.specs.declared.Parts.{Parts}
 
 -- The place that parts are; a count past four, which no place that fits has, is taken as four.
 abbrev pub held : Parts → BuilderPlace
-held p = place_of p.written (cond (leb p.count 4) p.count 4) p.top p.o1 p.o2 p.o3
+held p = place_of p.written (cond (leb p.units.count 4) p.units.count 4) p.units.top p.units.o1 p.units.o2 p.units.o3

@@ -12,21 +12,11 @@ use cdf_builder_spec::{Begun, Parts};
 use cdf_builder_write::{write_bytes, write_length, write_unit};
 use cdf_unit_prefix::Edition;
 
-// How long a unit is, from its start to where the writing stands.
-fn length_to(written: usize, start: usize) -> usize
-    ensures { result ≡ written - start }
-{
-    if written < start {
-        return 0;
-    }
-    written - start
-}
-
-// Writes the length of an open unit.
+// Writes the length of an open unit: from its start to where the writing stands.
 fn write_open(edition: Edition, buffer: &mut [u8], written: usize, o: Begun)
     ensures { buffer.new ≡ patch (o.start + 2) (bytes_of (layout_of edition).length_bytes (written - o.start)) buffer.old }
 {
-    let len = length_to(written, o.start);
+    let len = written.saturating_sub(o.start);
     write_length(edition, buffer, o.start, len);
 }
 
@@ -34,33 +24,29 @@ fn write_open(edition: Edition, buffer: &mut [u8], written: usize, o: Begun)
 fn rewrite_around(edition: Edition, buffer: &mut [u8], p: Parts)
     ensures { buffer.new ≡ lengths (layout_of edition) p.written (drop 1 (held p).units) buffer.old }
 {
-    let o1 = p.o1;
-    let o2 = p.o2;
-    let o3 = p.o3;
-    if p.count < 2 {
+    if p.units.count < 2 {
         return;
     }
-    write_open(edition, buffer, p.written, o1);
-    if p.count < 3 {
+    write_open(edition, buffer, p.written, p.units.o1);
+    if p.units.count < 3 {
         return;
     }
-    write_open(edition, buffer, p.written, o2);
-    if p.count < 4 {
+    write_open(edition, buffer, p.written, p.units.o2);
+    if p.units.count < 4 {
         return;
     }
-    write_open(edition, buffer, p.written, o3);
+    write_open(edition, buffer, p.written, p.units.o3);
 }
 
 // Writes the lengths of all open units.
 fn rewrite(edition: Edition, buffer: &mut [u8], p: Parts)
     ensures { buffer.new ≡ lengths (layout_of edition) p.written (held p).units buffer.old }
 {
-    if p.count == 0 {
+    if p.units.count == 0 {
         return;
     }
-    let top = p.top;
     rewrite_around(edition, buffer, p);
-    write_open(edition, buffer, p.written, top);
+    write_open(edition, buffer, p.written, p.units.top);
 }
 
 // Writes a unit at a position, and then the lengths of the units that are open at a place.

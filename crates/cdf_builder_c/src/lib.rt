@@ -10,7 +10,8 @@ ghost use Rattle.cdf_builder.specs.View.{view, no_builder};
 ghost use Rattle.cdf_builder_numbers.specs.Numbers.{builder_from, numbers_of, reply_from, call_from};
 
 use cdf_builder::start;
-use cdf_builder_numbers::{builder_from, store, write_builder};
+use cdf_builder_numbers::{builder_from, store};
+use cdf_refusal::tell;
 
 // START: the number; the place's numbers are written always, as zeros where the start is refused.
 #[unsafe(no_mangle)]
@@ -18,10 +19,8 @@ pub extern "C" fn cdf_build_first(buffer: &mut [u8], root: u64, place: &mut [u64
     ensures is { reply_from result place.new buffer.new ≡ start_of (layout_of First) buffer.old root }
     ensures clears { (result ≡ 0 → ⊥) → place.new ≡ numbers_of no_builder }
 {
-    let built = start(buffer, root as usize);
-    let p = built.place;
-    write_builder(p, place);
-    built.number as u64
+    *place = [0; 10];
+    store(start(buffer, root as usize), place)
 }
 
 // ADD_STREAM: the number; the place's numbers are written where it is 0.
@@ -35,9 +34,7 @@ pub extern "C" fn cdf_build_add_stream(
         ≡ call_from buffer.old place.old (group bytes.now) }
     ensures stays { (result ≡ 0 → ⊥) → place.new ≡ place.old }
 {
-    let p = builder_from(place);
-    let built = p.add_stream(buffer, bytes);
-    store(built, place)
+    store(builder_from(place).add_stream(buffer, bytes), place)
 }
 
 // FINISH: the number; in answer the stream's length, beside any other number than 0 none.
@@ -47,8 +44,5 @@ pub extern "C" fn cdf_build_finish(buffer: &[u8], place: &[u64; 10], answer: &mu
     ensures answer { answer.new
         ≡ (finish_of (layout_of First) (length buffer.now) (view (builder_from place.now))).length ∷ [] }
 {
-    let p = builder_from(place);
-    let finished = p.finish(buffer);
-    *answer = [finished.length as u64];
-    finished.number as u64
+    tell(builder_from(place).finish(buffer), answer)
 }

@@ -1,13 +1,11 @@
 -- What a call and a start answer, by what was decided and written.
-use Prim.Native.Nat.{ℕ, ◌<◌, ◌%◌}
-use mathlib.Core.Path.{◌≡◌, refl, sym, ap, ◌∙◌}
-use mathlib.Core.Bool.{Bool, true, false, cond, false≢true}
-use mathlib.Core.List.{List, []}
-use native.Mathlib.Omega.{arith}
-use native.Mathlib.Nat.{mod-eq_of_lt}
-use borrow.Author.Tests.{eq-eqb, ne_eqb, ltb-true, leb-true, leb-false, lt-ltb}
-use lib.Dec.{T, eqb, leb, ltb}
-use lib.ListN.{length}
+use Rattle.std.proofs.Common.{ℕ, ◌<◌, ◌%◌, ◌≡◌, refl, sym, ap, ◌∙◌, Bool, true, false, cond, List, [], arith, mod-eq_of_lt, ne_eqb, ltb-true}
+use Rattle.std.proofs.Common.{leb-true, leb-false, lt-ltb, T, eqb, leb, ltb, length}
+use Rattle.std.proofs.lemmas.Bool.{false≢true}
+use Rattle.std.specs.Prelude.{Ok, Err}
+use Rattle.cdf_refusal.specs.Numbers.{number_of}
+use Rattle.cdf_refusal.specs.declared.Refusal.{Refusal}
+use Rattle.cdf_refusal.proofs.Apart.{refuses}
 use Rattle.cdf_unit_table.specs.Ids.{known, ids_end, kind_of, action_allowed}
 use Rattle.cdf_unit_table.specs.States.{root_kind}
 use Rattle.cdf_unit_table.proofs.Bools.{both}
@@ -21,7 +19,6 @@ use Rattle.cdf_builder_spec.proofs.Replying.{bytes_unit}
 use Rattle.cdf_builder_spec.specs.Slots.{placed}
 use Rattle.cdf_builder_spec.specs.declared.Parts.{Parts}
 use Rattle.cdf_builder_decide.specs.Grown.{decision_of}
-use Rattle.cdf_builder_decide.specs.declared.Decided.{Decided}
 use Rattle.cdf_builder_decide.proofs.Stages.{decided_done, allowed}
 use Rattle.cdf_builder_decide.proofs.Few.{few_after}
 use Rattle.cdf_builder_append.specs.Held.{held}
@@ -44,30 +41,31 @@ action_byte id action k e =
     go true h small = absurd (false≢true (sym (not_member (kind_of id).actions 256 small action (leb-true 256 action h)) ∙ e))
     go false h small = leb-false 256 action h
 
-module _ (l : Layout) (s : List ℕ) (p : Parts) (r : Request) (b : Decided) (d : decision_of b ≡ decide_of l (length s) (placed p) r) where
+module _ (l : Layout) (s : List ℕ) (p : Parts) (r : Request) where
   abbrev by : Decision → Reply
   by d = record { number = d.number; place = d.place; buffer = cond (eqb d.number 0) (write_of l p.written d.place (bytes_for l r) s) s }
 
-  pub refusing : (b.number ≡ 0 → ⊥) → reply_of b s ≡ call_of l s (placed p) r
+  pub refusing : (f : Refusal) → decision_of p (Err f) ≡ decide_of l (length s) (placed p) r → reply_of p (Err f) s ≡ call_of l s (placed p) r
   unfolding call_of
-  refusing some =
-      let here : reply_of b s ≡ by (decision_of b) = rw (ne_eqb b.number 0 some) in
+  refusing f d =
+      let here : reply_of p (Err f) s ≡ by (decision_of p (Err f)) = rw (ne_eqb (number_of f) 0 (refuses f)) in
       here ∙ ap by d
 
   -- The place has a slot for each unit that is then open.
-  pub writing : b.number ≡ 0 → (t : List ℕ) → t ≡ write_of l p.written (held b.place) (bytes_for l r) s → reply_of b t ≡ call_of l s (placed p) r
+  pub writing : (q : Parts) → decision_of p (Ok q) ≡ decide_of l (length s) (placed p) r → (t : List ℕ) →
+      t ≡ write_of l p.written (held q) (bytes_for l r) s → reply_of p (Ok q) t ≡ call_of l s (placed p) r
   unfolding call_of
-  writing none t e =
-      let all = held_few b.place (few_after l (length s) p r b d none) in
+  writing q d t e =
+      let all = held_few q (few_after l (length s) p r q d) in
       let wrote = e ∙ ap (λ (q : BuilderPlace). write_of l p.written q (bytes_for l r) s) all in
-      let here : reply_of b t ≡ by (decision_of b) = rw (eq-eqb b.number 0 none, wrote) in
+      let here : reply_of p (Ok q) t ≡ by (decision_of p (Ok q)) = rw wrote in
       here ∙ ap by d
 
--- The bytes of a unit that is decided with 0.
-pub unit_bytes_lem : (l : Layout) (n : ℕ) (p : BuilderPlace) (u : Item) (b : Decided) → decision_of b ≡ decide_of l n p (unit u) → b.number ≡ 0 →
+-- The bytes of a unit that is not refused.
+pub unit_bytes_lem : (l : Layout) (n : ℕ) (p : BuilderPlace) (u : Item) (q : Parts) → record { number = 0; place = placed q } ≡ decide_of l n p (unit u) →
     unit_bytes l (u.id % 256) (u.action % 256) u.text [] ≡ bytes_for l (unit u)
-unit_bytes_lem l n p u b d e =
-    let w = allowed l n p u (decided_done l n p (unit u) b d e) in
+unit_bytes_lem l n p u q d =
+    let w = allowed l n p u (decided_done l n p (unit u) q d) in
     rw (id_byte u.id w.0, action_byte u.id u.action w.0 w.1) (sym (bytes_unit l u))
 
 module _ (l : Layout) (s : List ℕ) (id : ℕ) where

@@ -1,14 +1,16 @@
 -- What a call answers, told as the format's reply; the parts that hold only zeros.
-use Rattle.std.specs.Prelude.{ℕ, List}
+use Rattle.std.specs.Prelude.{ℕ, List, Result, Ok, Err}
+use Rattle.cdf_refusal.specs.Numbers.{number_of}
+use Rattle.cdf_refusal.specs.declared.Refusal.{Refusal}
 use Rattle.cdf_builder_spec.specs.Calls.{Reply}
-use Rattle.cdf_builder_spec.specs.Slots.{no_begun, placed}
+use Rattle.cdf_builder_spec.specs.Slots.{no_units, placed}
 use Rattle.cdf_builder_spec.specs.declared.Parts.{Parts}
-use Rattle.cdf_builder_decide.specs.declared.Decided.{Decided}
 
--- The number and the place, with the buffer as it then is.
-abbrev pub reply_of : Decided → List ℕ → Reply
-reply_of d s = record { number = d.number; place = placed d.place; buffer = s }
+-- The number and the place, with the buffer as it then is. A refusal leaves the place that was given.
+abbrev pub reply_of : Parts → Result Parts Refusal → List ℕ → Reply
+reply_of p (Ok q) s = record { number = 0; place = placed q; buffer = s }
+reply_of p (Err r) s = record { number = number_of r; place = placed p; buffer = s }
 
--- What a refused start returns.
+-- What a refused start leaves.
 abbrev pub no_parts : Parts
-no_parts = record { written = 0; count = 0; top = no_begun; o1 = no_begun; o2 = no_begun; o3 = no_begun }
+no_parts = record { written = 0; units = no_units }

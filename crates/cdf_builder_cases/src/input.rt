@@ -1,113 +1,115 @@
 // Reading the cases.
+ghost use Rattle.std.specs.Prelude.{◌<◌, IfSome};
+
 use std::io::{self, Read};
 
-// What stands for a number or a size that could not be read: no other is as large.
-pub(crate) const BAD: usize = 18446744073709551615;
+// Why the cases end before the input does: a line that cannot be read, or input or output that fails.
+#[derive(Debug, Drop)]
+pub(crate) enum Stop {
+    Unreadable,
+    Failed(io::Error),
+}
 
-// The next byte of the input, or 0 at its end.
+impl From<io::Error> for Stop {
+    fn from(error: io::Error) -> Stop {
+        Stop::Failed(error)
+    }
+}
+
+// The next byte of the input, or 0 at its end: a zero byte ends it too, as it always did. This, `digit` and the copying of a label stand twice, here
+// and in the check's cases: a crate for three functions of a few lines is not plainer, and there a bad digit is answered otherwise.
 pub(crate) fn next_byte(input: &mut impl Read) -> io::Result<u8> {
     input.bytes().next().unwrap_or(Ok(0))
 }
 
-// What a digit stands for, 16 for any other byte.
-fn digit(c: u8) -> usize {
+// What a digit stands for.
+fn digit(c: u8) -> Option<usize>
+    ensures { IfSome result (λ d. d < 16) }
+{
     match c {
-        b'0'..=b'9' => (c - b'0') as usize,
-        b'A'..=b'F' => (c - b'A') as usize + 10,
-        _ => 16,
+        b'0'..=b'9' => Some((c - b'0') as usize),
+        b'A'..=b'F' => Some((c - b'A') as usize + 10),
+        _ => None,
     }
 }
 
 // A number with a digit more.
-fn longer(n: usize, d: usize) -> usize {
-    if d > 9 {
-        return BAD;
+fn longer(n: usize, c: u8) -> Option<usize> {
+    let d = digit(c)?;
+    if d > 9 || n > 999999999999999999 {
+        return None;
     }
-    if n > 999999999999999999 {
-        return BAD;
-    }
-    n * 10 + d
+    Some(n * 10 + d)
 }
 
 // The decimal number that stands before this byte, of 19 digits at most.
-pub(crate) fn number(input: &mut impl Read, end: u8) -> io::Result<usize> {
+pub(crate) fn number(input: &mut impl Read, end: u8) -> Result<usize, Stop> {
     let mut n = 0;
     for _ in 0..20 {
         let c = next_byte(input)?;
         if c == end {
             return Ok(n);
         }
-        n = longer(n, digit(c));
-        if n == BAD {
-            return Ok(BAD);
-        }
+        n = longer(n, c).ok_or(Stop::Unreadable)?;
     }
-    Ok(BAD)
+    Err(Stop::Unreadable)
+}
+
+// The byte of two digits.
+fn byte_of(high: u8, low: u8) -> Option<u8> {
+    Some((digit(high)? * 16 + digit(low)?) as u8)
 }
 
 // The byte whose first digit is c.
-fn byte_at(input: &mut impl Read, c: u8) -> io::Result<usize> {
-    let high = digit(c);
-    let low = digit(next_byte(input)?);
-    if high > 15 {
-        return Ok(BAD);
-    }
-    if low > 15 {
-        return Ok(BAD);
-    }
-    Ok(high * 16 + low)
+fn byte_at(input: &mut impl Read, c: u8) -> Result<u8, Stop> {
+    let low = next_byte(input)?;
+    byte_of(c, low).ok_or(Stop::Unreadable)
 }
 
 // The byte whose digits come next.
-fn two_digits(input: &mut impl Read) -> io::Result<usize> {
+fn two_digits(input: &mut impl Read) -> Result<u8, Stop> {
     let c = next_byte(input)?;
     byte_at(input, c)
 }
 
-// The functions named put_.. put bytes behind the first n of s, and return how many there are then.
-fn put_byte(s: &mut [u8], n: usize, byte: usize) -> usize {
-    if byte > 255 {
-        return BAD;
-    }
-    if n >= s.len() {
-        return BAD;
-    }
-    s[n] = byte as u8;
-    n + 1
+// The functions named put_.. put bytes behind the first n of s, which is lent fixed memory, and return how many there are then.
+fn put_byte(s: &mut [u8], n: usize, byte: u8) -> Option<usize> {
+    *s.get_mut(n)? = byte;
+    Some(n + 1)
 }
 
-fn put_run(s: &mut [u8], n: usize, count: usize, byte: usize) -> usize {
+// A run of none asks no byte.
+fn put_run(s: &mut [u8], n: usize, count: usize, byte: Option<u8>) -> Option<usize> {
     let mut end = n;
     for _ in 0..count {
-        end = put_byte(s, end, byte);
+        end = put_byte(s, end, byte?)?;
     }
-    end
+    Some(end)
 }
 
-// The run whose `*` was read.
-fn put_counted(input: &mut impl Read, s: &mut [u8], n: usize) -> io::Result<usize> {
+// The run whose `*` was read. That its byte cannot be read is nothing to a run of none.
+fn put_counted(input: &mut impl Read, s: &mut [u8], n: usize) -> Result<usize, Stop> {
     let high = two_digits(input)?;
     let low = two_digits(input)?;
-    let byte = two_digits(input)?;
-    if high > 255 {
-        return Ok(BAD);
-    }
-    if low > 255 {
-        return Ok(BAD);
-    }
-    Ok(put_run(s, n, high * 256 + low, byte))
+    let byte = match two_digits(input) {
+        Ok(byte) => Some(byte),
+        Err(Stop::Unreadable) => None,
+        Err(failed) => return Err(failed),
+    };
+    put_run(s, n, high as usize * 256 + low as usize, byte).ok_or(Stop::Unreadable)
 }
 
 // The byte whose first digit is c, or the run whose `*` it is.
-fn put_next(input: &mut impl Read, s: &mut [u8], n: usize, c: u8) -> io::Result<usize> {
+fn put_next(input: &mut impl Read, s: &mut [u8], n: usize, c: u8) -> Result<usize, Stop> {
     if c == b'*' {
         return put_counted(input, s, n);
     }
-    Ok(put_byte(s, n, byte_at(input, c)?))
+    let byte = byte_at(input, c)?;
+    put_byte(s, n, byte).ok_or(Stop::Unreadable)
 }
 
 // Puts the bytes of the rest of a line into s, and returns how many there are.
-pub(crate) fn read_data(input: &mut impl Read, s: &mut [u8]) -> io::Result<usize> {
+pub(crate) fn read_data(input: &mut impl Read, s: &mut [u8]) -> Result<usize, Stop> {
     let mut n = 0;
     for _ in 0..u64::MAX {
         let c = next_byte(input)?;
@@ -115,9 +117,6 @@ pub(crate) fn read_data(input: &mut impl Read, s: &mut [u8]) -> io::Result<usize
             return Ok(n);
         }
         n = put_next(input, s, n, c)?;
-        if n == BAD {
-            return Ok(BAD);
-        }
     }
-    Ok(BAD)
+    Err(Stop::Unreadable)
 }

@@ -24,44 +24,32 @@
 mod input;
 mod output;
 
-use crate::input::{BAD, next_byte, number, read_data};
+use crate::input::{Stop, next_byte, number, read_data};
 use crate::output::{write_buffer, write_number, write_place};
-use cdf_builder::{Builder, Built, start};
+use cdf_builder::{Builder, start};
 use cdf_builder_spec::Begun;
+use cdf_open_units::OpenUnits;
+use cdf_refusal::Refusal;
 use std::io::{self, Read};
 
-// What a line did: whether it could be read, and the place then.
-#[derive(Clone, Copy)]
-struct Step {
-    good: bool,
-    place: Builder,
-}
-
-fn unread(place: Builder) -> Step {
-    Step { good: false, place }
-}
-
-// Writes what a call answered.
-fn answered(rt: &impl Print, letter: char, built: Built) -> io::Result<Step> {
-    write_number(rt, letter, built.number)?;
-    Ok(Step {
-        good: true,
-        place: built.place,
-    })
-}
-
-fn run_start(
+// The functions named run_.. answer the place after a line. This writes what a call answered.
+fn answered(
     rt: &impl Print,
-    input: &mut impl Read,
-    buffer: &mut [u8],
-    place: Builder,
-) -> io::Result<Step> {
+    letter: char,
+    given: Builder,
+    answer: Result<Builder, Refusal>,
+) -> Result<Builder, Stop> {
+    let (number, place) = match answer {
+        Ok(place) => (0, place),
+        Err(refusal) => (refusal.number(), given),
+    };
+    write_number(rt, letter, number)?;
+    Ok(place)
+}
+
+fn run_start(rt: &impl Print, input: &mut impl Read, buffer: &mut [u8]) -> Result<Builder, Stop> {
     let id = number(input, b'\n')?;
-    if id == BAD {
-        return Ok(unread(place));
-    }
-    let built = start(buffer, id);
-    answered(rt, 'S', built)
+    answered(rt, 'S', Builder::default(), start(buffer, id))
 }
 
 fn run_next(
@@ -69,22 +57,13 @@ fn run_next(
     input: &mut impl Read,
     buffer: &mut [u8],
     place: Builder,
-) -> io::Result<Step> {
+) -> Result<Builder, Stop> {
     let id = number(input, b' ')?;
     let action = number(input, b' ')?;
     let mut data = [0u8; 65536];
     let n = read_data(input, &mut data)?;
-    if id == BAD {
-        return Ok(unread(place));
-    }
-    if action == BAD {
-        return Ok(unread(place));
-    }
-    if n > 65536 {
-        return Ok(unread(place));
-    }
-    let built = place.next(buffer, id, action, &data[..n]);
-    answered(rt, 'N', built)
+    let data = data.get(..n).ok_or(Stop::Unreadable)?;
+    answered(rt, 'N', place, place.next(buffer, id, action, data))
 }
 
 fn run_add_stream(
@@ -92,57 +71,56 @@ fn run_add_stream(
     input: &mut impl Read,
     buffer: &mut [u8],
     place: Builder,
-) -> io::Result<Step> {
+) -> Result<Builder, Stop> {
     let mut data = [0u8; 65536];
     let n = read_data(input, &mut data)?;
-    if n > 65536 {
-        return Ok(unread(place));
-    }
-    let built = place.add_stream(buffer, &data[..n]);
-    answered(rt, 'A', built)
+    let data = data.get(..n).ok_or(Stop::Unreadable)?;
+    answered(rt, 'A', place, place.add_stream(buffer, data))
 }
 
+// What FINISH answers is written, however its line ends.
 fn run_finish(
     rt: &impl Print,
     input: &mut impl Read,
     buffer: &[u8],
     place: Builder,
-) -> io::Result<Step> {
-    let good = next_byte(input)? == b'\n';
-    let finished = place.finish(buffer);
-    write_number(rt, 'F', finished.number)?;
-    write_number(rt, 'L', finished.length)?;
-    Ok(Step { good, place })
+) -> Result<Builder, Stop> {
+    let c = next_byte(input)?;
+    let (number, length) = match place.finish(buffer) {
+        Ok(length) => (0, length),
+        Err(refusal) => (refusal.number(), 0),
+    };
+    write_number(rt, 'F', number)?;
+    write_number(rt, 'L', length)?;
+    if c != b'\n' {
+        return Err(Stop::Unreadable);
+    }
+    Ok(place)
 }
 
-fn read_open(input: &mut impl Read) -> io::Result<Begun> {
+fn read_open(input: &mut impl Read) -> Result<Begun, Stop> {
     let state = number(input, b' ')?;
     let start = number(input, b' ')?;
     Ok(Begun { state, start })
 }
 
-fn is_read(o: Begun) -> bool {
-    (o.state != BAD) & (o.start != BAD)
-}
-
-fn read_place(input: &mut impl Read) -> io::Result<Step> {
+fn read_place(input: &mut impl Read) -> Result<Builder, Stop> {
     let top = read_open(input)?;
     let o1 = read_open(input)?;
     let o2 = read_open(input)?;
     let o3 = read_open(input)?;
     let count = number(input, b' ')?;
     let written = number(input, b'\n')?;
-    let units = is_read(top) & is_read(o1) & is_read(o2) & is_read(o3);
-    let good = units & (count != BAD) & (written != BAD);
-    let place = Builder {
+    Ok(Builder {
         written,
-        count,
-        top,
-        o1,
-        o2,
-        o3,
-    };
-    Ok(Step { good, place })
+        units: OpenUnits {
+            count,
+            top,
+            o1,
+            o2,
+            o3,
+        },
+    })
 }
 
 // The line that begins with this letter.
@@ -152,80 +130,58 @@ fn run_line(
     letter: u8,
     buffer: &mut [u8],
     place: Builder,
-) -> io::Result<Step> {
+) -> Result<Builder, Stop> {
     match letter {
-        b'S' => run_start(rt, input, buffer, place),
+        b'S' => run_start(rt, input, buffer),
         b'N' => run_next(rt, input, buffer, place),
         b'A' => run_add_stream(rt, input, buffer, place),
         b'F' => run_finish(rt, input, buffer, place),
         b'P' => read_place(input),
-        _ => Ok(unread(place)),
+        _ => Err(Stop::Unreadable),
     }
 }
 
-// Runs the lines up to the dot, and answers whether all could be read.
-fn run_lines(
-    rt: &impl Print,
-    input: &mut impl Read,
-    buffer: &mut [u8],
-    first: Builder,
-) -> io::Result<bool> {
-    let mut place = first;
+// Runs the lines up to the dot. What they left is written, however the dot's line ends.
+fn run_lines(rt: &impl Print, input: &mut impl Read, buffer: &mut [u8]) -> Result<(), Stop> {
+    let mut place = Builder::default();
     for _ in 0..u64::MAX {
         let c = next_byte(input)?;
         if c == b'.' {
             write_place(rt, place)?;
             write_buffer(rt, buffer)?;
-            return Ok(next_byte(input)? == b'\n');
+            if next_byte(input)? != b'\n' {
+                return Err(Stop::Unreadable);
+            }
+            return Ok(());
         }
-        let step = run_line(rt, input, c, buffer, place)?;
-        if !step.good {
-            return Ok(false);
-        }
-        place = step.place;
+        place = run_line(rt, input, c, buffer, place)?;
     }
-    Ok(false)
+    Err(Stop::Unreadable)
 }
 
-// Writes a label that begins with c, and answers whether a space ends it.
-fn copy_label(rt: &impl Print, input: &mut impl Read, c: u8) -> io::Result<bool> {
+// Writes a label that begins with c, up to the space that ends it.
+fn copy_label(rt: &impl Print, input: &mut impl Read, c: u8) -> Result<(), Stop> {
     let mut one = c;
     for _ in 0..u64::MAX {
         if one == b' ' {
-            return Ok(true);
+            return Ok(());
         }
         if one == 0 {
-            return Ok(false);
+            return Err(Stop::Unreadable);
         }
         rt.write_all(&[one])?;
         one = next_byte(input)?;
     }
-    Ok(false)
+    Err(Stop::Unreadable)
 }
 
-fn no_place() -> Builder {
-    let o = Begun { state: 0, start: 0 };
-    Builder {
-        written: 0,
-        count: 0,
-        top: o,
-        o1: o,
-        o2: o,
-        o3: o,
-    }
-}
-
-// Runs the case whose label begins with c, and answers whether it could be read.
-fn run_case(rt: &impl Print, input: &mut impl Read, c: u8) -> io::Result<bool> {
-    if !copy_label(rt, input, c)? {
-        return Ok(false);
-    }
+// Runs the case whose label begins with c.
+fn run_case(rt: &impl Print, input: &mut impl Read, c: u8) -> Result<(), Stop> {
+    copy_label(rt, input, c)?;
     let size = number(input, b'\n')?;
-    if size > 65536 {
-        return Ok(false);
-    }
     let mut space = [0xEEu8; 65536];
-    run_lines(rt, input, &mut space[..size], no_place())
+    let buffer = space.get_mut(..size).ok_or(Stop::Unreadable)?;
+    run_lines(rt, input, buffer)
 }
 
 fn main(rt: HostRuntime) -> io::Result<()> {
@@ -235,9 +191,13 @@ fn main(rt: HostRuntime) -> io::Result<()> {
         if c == 0 {
             break;
         }
-        if !run_case(&rt, &mut input, c)? {
-            println!(rt; " error")?;
-            break;
+        match run_case(&rt, &mut input, c) {
+            Ok(()) => {}
+            Err(Stop::Unreadable) => {
+                println!(rt; " error")?;
+                break;
+            }
+            Err(Stop::Failed(error)) => return Err(error),
         }
     }
     Ok(())

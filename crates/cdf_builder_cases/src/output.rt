@@ -1,5 +1,5 @@
 // Writing the answers.
-ghost use Rattle.std.specs.Prelude.{◌≡◌, ◌<◌, ◌≤◌, length, take};
+ghost use Rattle.std.specs.Prelude.{◌≡◌, ◌≤◌, length, take};
 
 use cdf_builder::Builder;
 use cdf_builder_spec::Begun;
@@ -16,17 +16,17 @@ fn write_open(rt: &impl Print, o: Begun) -> io::Result<()> {
 
 pub(crate) fn write_place(rt: &impl Print, p: Builder) -> io::Result<()> {
     write_number(rt, 'P', p.written)?;
-    if p.count > 1 {
-        write_open(rt, p.o1)?;
+    if p.units.count > 1 {
+        write_open(rt, p.units.o1)?;
     }
-    if p.count > 2 {
-        write_open(rt, p.o2)?;
+    if p.units.count > 2 {
+        write_open(rt, p.units.o2)?;
     }
-    if p.count > 3 {
-        write_open(rt, p.o3)?;
+    if p.units.count > 3 {
+        write_open(rt, p.units.o3)?;
     }
-    if p.count > 0 {
-        write_open(rt, p.top)?;
+    if p.units.count > 0 {
+        write_open(rt, p.units.top)?;
     }
     Ok(())
 }
@@ -36,14 +36,9 @@ fn changed(s: &[u8]) -> usize
     ensures within { result ≤ length s.now }
     ensures front { result ≡ length (take result s.now) }
 {
-    let mut n = s.len();
-    while n > 0 {
-        if s[n - 1] != 0xEE {
-            return n;
-        }
-        n -= 1;
-    }
-    0
+    s.iter()
+        .rposition(|&byte| byte != 0xEE)
+        .map_or(0, |i| i + 1)
 }
 
 fn write_byte(rt: &impl Print, byte: u8) -> io::Result<()> {
@@ -57,20 +52,13 @@ fn write_hex(rt: &impl Print, s: &[u8]) -> io::Result<()> {
     Ok(())
 }
 
-// A sum with a byte more: the digits of a number in base 257, modulo a prime.
-fn summed(h: u64, byte: u8) -> u64
-    requires { h < 4294967291 }
-    ensures { result < 4294967291 }
-{
-    (h * 257 + byte as u64) % 4294967291
-}
+// A prime below 2 to the 32.
+const PRIME: u64 = 4294967291;
 
+// The digits of a number in base 257, modulo the prime.
 fn sum(s: &[u8]) -> u64 {
-    let mut h: u64 = 0;
-    for &byte in s {
-        h = summed(h, byte);
-    }
-    h
+    s.iter()
+        .fold(0, |h, &byte| (h % PRIME * 257 + byte as u64) % PRIME)
 }
 
 // All of the bytes, or of many a sum, the first 16 and the last 16.

@@ -1,10 +1,5 @@
 -- A tail that is lent, and when it is back with new bytes at its front.
-use mathlib.Core.Path.{◌≡◌}
-use mathlib.Core.List.{List, [], ◌++◌, append-nil}
-use Prim.Native.Nat.{ℕ, ◌+◌, ◌-◌, ◌≤◌}
-use native.Mathlib.Omega.{arith}
-use lib.ListN.{length, take, drop, length-drop, drop_of_length-le}
-use lib.Seq.{drop-drop}
+use Rattle.std.proofs.Common.{◌≡◌, List, [], ◌++◌, append-nil, ℕ, ◌+◌, ◌-◌, ◌≤◌, arith, length, take, drop, length-drop, drop_of_length-le, drop-drop}
 use borrow.Rule.Slice.PartMut.{put_mid}
 use Rattle.cdf_unit_table.proofs.Parts.{rest}
 

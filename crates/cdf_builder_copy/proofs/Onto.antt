@@ -1,9 +1,6 @@
 -- What a copy leaves, by whether there is room.
-use Prim.Native.Nat.{ℕ, ◌+◌, ◌-◌, ◌≤◌, ◌<◌}
-use mathlib.Core.Path.{◌≡◌}
-use mathlib.Core.List.{List, ◌++◌}
-use borrow.Author.Tests.{le-leb, lt-leb}
-use lib.ListN.{length, take, drop}
+use Rattle.std.proofs.Common.{ℕ, ◌+◌, ◌-◌, ◌≤◌, ◌<◌, ◌≡◌, List, ◌++◌, le-leb, length, take, drop}
+use Rattle.std.proofs.lemmas.Bool.{lt-leb}
 use Rattle.cdf_builder_copy.specs.Onto.{onto}
 use Rattle.cdf_builder_copy.proofs.Lent.{enough}
 

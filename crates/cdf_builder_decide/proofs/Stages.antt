@@ -1,36 +1,27 @@
 -- What is decided of a request, stage by stage.
-use Prim.Native.Nat.{ℕ, ◌+◌, ◌≤◌, ◌<◌}
-use mathlib.Core.Path.{◌≡◌, refl, sym, ap, ◌∙◌}
-use mathlib.Core.Bool.{Bool, true, false, cond, not, false≢true}
-use mathlib.Core.List.{List, [], ◌∷◌}
-use native.Mathlib.Omega.{arith}
-use borrow.Author.Tests.{ne_eqb, not-false}
-use lib.Dec.{eqb}
-use lib.ListN.{length}
+use Rattle.std.proofs.Common.{ℕ, ◌+◌, ◌≤◌, ◌<◌, ◌≡◌, refl, sym, ap, ◌∙◌, Bool, true, false, cond, not, List, [], ◌∷◌, arith, ne_eqb, eqb, length}
+use Rattle.std.proofs.lemmas.Bool.{not-false}
 use Rattle.cdf_unit_table.specs.Ids.{known, action_allowed}
 use Rattle.cdf_unit_table.specs.States.{nothing, opens}
-use Rattle.cdf_unit_table.proofs.Bools.{both, past}
+use Rattle.std.specs.Prelude.{Some, None}
+use Rattle.cdf_unit_table.proofs.Bools.{clash, past}
 use Rattle.cdf_unit_prefix.specs.Layout.{Layout, layout_of, prefix_of, id_at}
 use Rattle.cdf_unit_prefix.specs.declared.Edition.{Edition}
 use Rattle.cdf_unit_prefix.specs.declared.Edition.TheVariants.{First, Second}
 use Rattle.cdf_grammar.specs.Encoding.{Item}
-use Rattle.cdf_unit_list.specs.Check.{check_of}
-use Rattle.cdf_reader_spec.specs.Calls.{is_group}
 use Rattle.cdf_builder_spec.specs.Place.{BuilderPlace, fits}
-use Rattle.cdf_builder_spec.specs.Requests.{Request, unit, group, id_of, bytes_for, joining, ending, completed, join_number, right_data, accepted_group, refused}
-use Rattle.cdf_builder_spec.specs.Requests.{advanced, entering, grown}
+use Rattle.cdf_builder_spec.specs.Requests.{Request, unit, group, id_of, bytes_for, joining, ending, completed, join_number, right_data, accepted_group}
+use Rattle.cdf_builder_spec.specs.Requests.{refused, advanced, entering, grown}
 use Rattle.cdf_builder_spec.specs.Calls.{Decision, room, call_number, decide_of}
 use Rattle.cdf_builder_spec.specs.declared.Begun.{Begun}
 use Rattle.cdf_builder_spec.proofs.Fitting.{fitting}
 use Rattle.cdf_builder_spec.proofs.Joining.{joined_is}
 use Rattle.cdf_builder_spec.proofs.Replying.{call_fitting, unit_size}
-use Rattle.cdf_builder_faults.specs.Parts.{own_fault, group_id}
+use Rattle.cdf_builder_faults.specs.Parts.{own_fault, group_of}
 use Rattle.cdf_reader_spec.proofs.Counted.{length_held}
 use Rattle.cdf_builder_spec.specs.Slots.{no_begun, units, placed}
-use Rattle.cdf_builder_decide.specs.Grown.{decision_of}
 use Rattle.cdf_builder_decide.specs.Grown.{grown_by, growing}
 use Rattle.cdf_builder_spec.specs.declared.Parts.{Parts}
-use Rattle.cdf_builder_decide.specs.declared.Decided.{Decided}
 
 -- A number that is not 0, or what is asked next.
 abbrev pub or_else : ℕ → ℕ → ℕ
@@ -55,9 +46,9 @@ module _ (l : Layout) (n : ℕ) (p : BuilderPlace) (r : Request) where
   pub declined : (k : ℕ) → (k ≡ 0 → ⊥) → call_number l n p r ≡ k → decide_of l n p r ≡ record { number = k; place = p }
   declined k some e = decided k e ∙ rw (ne_eqb k 0 some)
 
-  -- What is answered with 0 was decided with 0.
-  pub decided_done : (b : Decided) → decision_of b ≡ decide_of l n p r → b.number ≡ 0 → call_number l n p r ≡ 0
-  decided_done b d e = sym (ap (λ (x : Decision). x.number) (d ∙ decided _ refl)) ∙ e
+  -- Where there is a place, no rule was broken.
+  pub decided_done : (q : Parts) → record { number = 0; place = placed q } ≡ decide_of l n p r → call_number l n p r ≡ 0
+  decided_done q d = sym (ap (λ (x : Decision). x.number) (d ∙ decided _ refl))
 
   pub unfit : fits l n p ≡ false → call_number l n p r ≡ 2
   unfolding call_number
@@ -94,36 +85,36 @@ module _ (l : Layout) (n : ℕ) (p : BuilderPlace) (u : Item) (f : fits l n p �
       right e = by_faults ∙ rw (j, e)
 
 -- ADD_STREAM.
-group_some : (l : Layout) (g : List ℕ) → (group_id l g ≡ 0 → ⊥) → (accepted_group l g ≡ true) × (group_id l g ≡ id_at l g)
-unfolding group_id
-group_some l g some = by (accepted_group l g) some
+group_some : (l : Layout) (g : List ℕ) (id : ℕ) → Some id ≡ group_of l g → (accepted_group l g ≡ true) × (id ≡ id_at l g)
+unfolding group_of
+group_some l g id is = by (accepted_group l g) is
   where
-    by : (b : Bool) → (cond b (id_at l g) 0 ≡ 0 → ⊥) → (b ≡ true) × (cond b (id_at l g) 0 ≡ id_at l g)
-    by true some = (refl, refl)
-    by false some = absurd (some refl)
+    by : (b : Bool) → Some id ≡ cond b (Some (id_at l g)) None → (b ≡ true) × (id ≡ id_at l g)
+    by true e = let same : id ≡ id_at l g = cc in (refl, same)
+    by false e = clash cc
 
-group_none : (l : Layout) (g : List ℕ) → group_id l g ≡ 0 → accepted_group l g ≡ false
-unfolding group_id accepted_group
-group_none l g e = by (accepted_group l g) refl e
+group_none : (l : Layout) (g : List ℕ) → None ≡ group_of l g → accepted_group l g ≡ false
+unfolding group_of
+group_none l g is = by (accepted_group l g) is
   where
-    by : (b : Bool) → accepted_group l g ≡ b → cond b (id_at l g) 0 ≡ 0 → b ≡ false
-    by false a e = refl
-    by true a e = absurd (false≢true (rw e at (both (eqb (check_of l g).number 0) (is_group (id_at l g)) a).1))
+    by : (b : Bool) → None ≡ cond b (Some (id_at l g)) None → b ≡ false
+    by true e = clash cc
+    by false e = refl
 
 module _ (l : Layout) (n : ℕ) (p : BuilderPlace) (g : List ℕ) (f : fits l n p ≡ true) where
   abbrev GroupNumber : ℕ
   GroupNumber = call_number l n p (group g)
 
-  pub no_group : group_id l g ≡ 0 → GroupNumber ≡ 14
+  pub no_group : None ≡ group_of l g → GroupNumber ≡ 14
   unfolding refused
   no_group e = call_fitting l n p (group g) f ∙ rw (group_none l g e)
 
-  module _ (id : ℕ) (is : id ≡ group_id l g) (some : id ≡ 0 → ⊥) where
+  module _ (id : ℕ) (is : Some id ≡ group_of l g) where
     by_joined : GroupNumber ≡ or_else (join_number p.units id 0) (room l n (p.written + length g))
     unfolding refused bytes_for
     by_joined =
-        let w = group_some l g (λ z. some (is ∙ z)) in
-        call_fitting l n p (group g) f ∙ rw (w.0, ← w.1, ← is) (joined_next p.units id _)
+        let w = group_some l g id is in
+        call_fitting l n p (group g) f ∙ rw (w.0, ← w.1) (joined_next p.units id _)
 
     pub group_not_joined : (m : ℕ) → m ≡ join_number p.units id 0 → (m ≡ 0 → ⊥) → GroupNumber ≡ m
     group_not_joined m e other = by_joined ∙ rw (← e, ne_eqb m 0 other)
@@ -147,13 +138,13 @@ module _ (l : Layout) (n : ℕ) (p : Parts) (count : ℕ) (top : Begun) where
       growing l n p count top size first ≡ decide_of l n (placed p) r
   grows r size first g = sym (decided l n (placed p) r _ g.number ∙ rw g.place)
 
-  module _ (id : ℕ) (left : units count top p.o1 p.o2 p.o3 ≡ advanced id (joining id (placed p).units)) where
+  module _ (id : ℕ) (left : units count top p.units.o1 p.units.o2 p.units.o3 ≡ advanced id (joining id (placed p).units)) where
     -- An id that is joined leaves a unit open.
     pub left_some : join_number (placed p).units id 0 ≡ 0 → 1 ≤ count
     unfolding advanced
     left_some j =
         let w = (joined_is (placed p).units id 0 j).0 in
-        omega (arith, ap length (left ∙ ap (advanced id) w.joins), length_held no_begun count top p.o1 p.o2 p.o3)
+        omega (arith, ap length (left ∙ ap (advanced id) w.joins), length_held no_begun count top p.units.o1 p.units.o2 p.units.o3)
 
     -- The place with a unit more.
     pub unit_place : (action : ℕ) (text : List ℕ) (size : ℕ) → size ≡ prefix_of l + length text → (first : ℕ) → first ≡ nothing id →
@@ -164,7 +155,7 @@ module _ (l : Layout) (n : ℕ) (p : Parts) (count : ℕ) (top : Begun) where
         rw (← s, ← left, ← is, entered_as (eqb first 0) (record { state = first; start = p.written } ∷ []))
 
   module _ (f : fits l n (placed p) ≡ true) (id : ℕ) (j : join_number (placed p).units id 0 ≡ 0)
-      (left : units count top p.o1 p.o2 p.o3 ≡ advanced id (joining id (placed p).units)) where
+      (left : units count top p.units.o1 p.units.o2 p.units.o3 ≡ advanced id (joining id (placed p).units)) where
     pub unit_grows : (action : ℕ) (text : List ℕ) → known id ≡ true → own_fault id action text ≡ 0 →
         (size : ℕ) → p.written + size < 18446744073709551616 → size ≡ prefix_of l + length text → (first : ℕ) → first ≡ nothing id →
         Grows l n p (unit (record { id = id; action = action; text = text })) count top size first
@@ -178,15 +169,15 @@ module _ (l : Layout) (n : ℕ) (p : Parts) (count : ℕ) (top : Begun) where
           some = left_some id left j;
         }
 
-    pub group_grows : (g : List ℕ) → id ≡ group_id l g → (id ≡ 0 → ⊥) → p.written + length g < 18446744073709551616 →
+    pub group_grows : (g : List ℕ) → Some id ≡ group_of l g → p.written + length g < 18446744073709551616 →
         Grows l n p (group g) count top (length g) 0
     unfolding grown id_of bytes_for entering
-    group_grows g is some sum =
-        let w = group_some l g (λ z. some (is ∙ z)) in
+    group_grows g is sum =
+        let w = group_some l g id is in
         record {
           sum = sum;
-          number = group_joined l n (placed p) g f id is some j;
-          place = rw (← w.1, ← is, ← left);
+          number = group_joined l n (placed p) g f id is j;
+          place = rw (← w.1, ← left);
           some = left_some id left j;
         }
 

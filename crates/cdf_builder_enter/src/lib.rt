@@ -2,60 +2,49 @@
 #![tactic(auto)]
 
 ghost use Rattle.std.specs.Prelude.{◌≡◌};
-ghost use Rattle.cdf_builder_enter.specs.Entering.{entered_by};
+ghost use Rattle.cdf_builder_enter.specs.Entering.{entered_in};
 
-use cdf_builder_join::Joined;
 use cdf_builder_spec::{Begun, Parts};
+use cdf_open_units::{Left, OpenUnits};
 
-// The place with so many bytes: of the units left open, and the new one in its first state, if that is not 0.
-pub fn enter(p: Parts, left: Joined, written: usize, first: usize) -> Parts
-    ensures { result ≡ entered_by p left.count left.top written first }
+// The place with so many bytes: of the units left open, and the new one in its first state, if it has one.
+pub fn enter(p: Parts, left: Left<Begun>, written: usize, first: Option<usize>) -> Parts
+    ensures { result ≡ entered_in p left.count left.top written first }
 {
-    let count = left.count;
-    let outer = left.top;
-    let o1 = p.o1;
-    let o2 = p.o2;
-    let o3 = p.o3;
-    if first == 0 {
+    let Some(state) = first else {
         return Parts {
             written,
-            count,
-            top: outer,
-            o1,
-            o2,
-            o3,
+            units: OpenUnits {
+                count: left.count,
+                top: left.top,
+                ..p.units
+            },
         };
-    }
+    };
     let inner = Begun {
-        state: first,
+        state,
         start: p.written,
     };
-    if count == 1 {
-        return Parts {
-            written,
+    // An arm for each slot.
+    let units = match left.count {
+        1 => OpenUnits {
             count: 2,
             top: inner,
-            o1: outer,
-            o2,
-            o3,
-        };
-    }
-    if count == 2 {
-        return Parts {
-            written,
+            o1: left.top,
+            ..p.units
+        },
+        2 => OpenUnits {
             count: 3,
             top: inner,
-            o1,
-            o2: outer,
-            o3,
-        };
-    }
-    Parts {
-        written,
-        count: 4,
-        top: inner,
-        o1,
-        o2,
-        o3: outer,
-    }
+            o2: left.top,
+            ..p.units
+        },
+        _ => OpenUnits {
+            count: 4,
+            top: inner,
+            o3: left.top,
+            ..p.units
+        },
+    };
+    Parts { written, units }
 }

@@ -4,7 +4,7 @@
 ghost use Rattle.std.specs.Prelude.{◌≡◌};
 ghost use Rattle.cdf_unit_prefix.specs.Layout.{layout_of};
 ghost use Rattle.cdf_builder_spec.specs.Place.{fits};
-ghost use Rattle.cdf_builder_spec.specs.Slots.{units, placed};
+ghost use Rattle.cdf_builder_spec.specs.Slots.{placed};
 ghost use Rattle.cdf_builder_fit.specs.Linked.{outermost, inside, linked};
 
 use cdf_builder_spec::{Begun, Parts};
@@ -27,16 +27,18 @@ fn is_inside(edition: Edition, p: Begun, o: Begun) -> bool
 }
 
 // Whether so many open units stand in one another. Each count has an arm of its own, so that no unit is asked that it does not reach.
-fn are_linked(edition: Edition, count: usize, top: Begun, o1: Begun, o2: Begun, o3: Begun) -> bool
-    ensures { result ≡ linked (layout_of edition) (units count top o1 o2 o3) }
+fn are_linked(edition: Edition, p: Parts) -> bool
+    ensures { result ≡ linked (layout_of edition) (placed p).units }
 {
-    match count {
-        1 => is_outermost(top),
-        2 => is_inside(edition, o1, top) & is_outermost(o1),
-        3 => is_inside(edition, o2, top) & (is_inside(edition, o1, o2) & is_outermost(o1)),
+    match p.units.count {
+        1 => is_outermost(p.units.top),
+        2 => is_inside(edition, p.units.o1, p.units.top) & is_outermost(p.units.o1),
+        3 => is_inside(edition, p.units.o2, p.units.top)
+            & (is_inside(edition, p.units.o1, p.units.o2) & is_outermost(p.units.o1)),
         4 => {
-            is_inside(edition, o3, top)
-                & (is_inside(edition, o2, o3) & (is_inside(edition, o1, o2) & is_outermost(o1)))
+            is_inside(edition, p.units.o3, p.units.top)
+                & (is_inside(edition, p.units.o2, p.units.o3)
+                    & (is_inside(edition, p.units.o1, p.units.o2) & is_outermost(p.units.o1)))
         }
         _ => false,
     }
@@ -46,20 +48,14 @@ fn are_linked(edition: Edition, count: usize, top: Begun, o1: Begun, o2: Begun, 
 pub fn is_fit(edition: Edition, n: usize, p: Parts) -> bool
     ensures { result ≡ fits (layout_of edition) n (placed p) }
 {
-    let written = p.written;
-    let count = p.count;
-    let top = p.top;
-    let o1 = p.o1;
-    let o2 = p.o2;
-    let o3 = p.o3;
-    if n < written {
+    if n < p.written {
         return false;
     }
-    if limit(edition) < written {
+    if limit(edition) < p.written {
         return false;
     }
-    if !is_past(edition, top.start, written) {
+    if !is_past(edition, p.units.top.start, p.written) {
         return false;
     }
-    are_linked(edition, count, top, o1, o2, o3)
+    are_linked(edition, p)
 }

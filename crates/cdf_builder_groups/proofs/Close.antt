@@ -1,13 +1,5 @@
 -- After a whole group the stream around it is open alone, and admits only a call.
-use Prim.Native.Nat.{ℕ, ◌<◌}
-use mathlib.Core.Path.{◌≡◌, refl, sym, ap, ◌∙◌}
-use mathlib.Core.Bool.{true, not, ◌||◌}
-use mathlib.Core.List.{List, [], ◌∷◌}
-use mathlib.Core.Logic.{inl, inr}
-use native.Mathlib.Omega.{arith}
-use borrow.Author.Tests.{eqb-true}
-use lib.Dec.{T, eqb}
-use lib.ListN.{length}
+use Rattle.std.proofs.Common.{ℕ, ◌<◌, ◌≡◌, refl, sym, ap, ◌∙◌, true, not, ◌||◌, List, [], ◌∷◌, inl, inr, arith, eqb-true, T, eqb, length}
 use Rattle.cdf_unit_table.specs.Ids.{call, er_group, file_group}
 use Rattle.cdf_unit_table.specs.States.{rows, admit, admits_kind, unit_of, stream_group}
 use Rattle.cdf_unit_table.proofs.Bools.{both}

@@ -1,10 +1,6 @@
 -- The lengths of open units that are written into the front of a buffer, which may be any bytes, and behind it.
-use Prim.Native.Nat.{ℕ, ◌+◌, ◌-◌, ◌≤◌}
-use mathlib.Core.Path.{◌≡◌, sym, ap, ap₂, ◌∙◌}
-use mathlib.Core.List.{List, [], ◌∷◌, ◌++◌, map}
-use native.Mathlib.Omega.{arith}
-use lib.ListN.{length, take, drop, length-append, take-append-drop}
-use lib.Seq.{length-take-le}
+use Rattle.std.proofs.Common.{ℕ, ◌+◌, ◌-◌, ◌≤◌, ◌≡◌, sym, ap, ap₂, ◌∙◌, List, [], ◌∷◌, ◌++◌, map, arith, length, take, drop, length-append}
+use Rattle.std.proofs.Common.{take-append-drop, length-take-le}
 use Rattle.cdf_unit_prefix.specs.Layout.{Layout, prefix_of}
 use Rattle.cdf_grammar.specs.Encoding.{bytes_of}
 use Rattle.cdf_grammar.proofs.Numbers.{length_bytes_lem}

@@ -1,11 +1,6 @@
 -- Open units that lie in one another: what each admits is lower than what the one around it admits.
-use Prim.Native.Nat.{ℕ, ◌<◌}
-use mathlib.Core.Path.{◌≡◌}
-use mathlib.Core.Bool.{true, not, ◌&&◌, ◌||◌}
-use mathlib.Core.List.{List, [], ◌∷◌, ◌++◌}
-use native.Mathlib.Omega.{arith}
-use borrow.Author.Tests.{eqb-true, ltb-true, leb-true, ne_eqb}
-use lib.Dec.{eqb, leb, ltb, ltb→lt}
+use Rattle.std.proofs.Common.{ℕ, ◌<◌, ◌≡◌, true, not, ◌&&◌, ◌||◌, List, [], ◌∷◌, ◌++◌, arith, eqb-true, ltb-true, leb-true, ne_eqb, eqb, leb, ltb}
+use Rattle.std.proofs.Common.{ltb→lt}
 use Rattle.cdf_unit_table.specs.States.{rows, states_end, unit_of, admits_kind, complete, skipped}
 use Rattle.cdf_unit_table.specs.Heights.{height}
 use Rattle.cdf_unit_table.proofs.Bools.{both}

@@ -1,12 +1,9 @@
 -- The same calls twice: on a buffer of their own, and on one where a front of any bytes stands before it, with units open around.
 -- Over the front they write what they write alone, and the lengths of the units around.
-use Prim.Native.Nat.{ℕ, ◌+◌, ◌-◌}
-use mathlib.Core.Path.{◌≡◌, refl, sym, ap, ◌∙◌}
-use mathlib.Core.Bool.{Bool, true, false, cond}
-use mathlib.Core.List.{List, [], ◌∷◌, ◌++◌, map, map-append, append_assoc, cons≢nil}
-use native.Mathlib.Omega.{arith}
-use lib.Dec.{eqb}
-use lib.ListN.{length}
+use Rattle.std.proofs.Common.{ℕ, ◌+◌, ◌-◌, ◌≡◌, refl, sym, ap, ◌∙◌, Bool, true, false, cond, List, [], ◌∷◌, ◌++◌, map, append_assoc, arith, eqb}
+use Rattle.std.proofs.Common.{length}
+use Rattle.std.proofs.lemmas.List.{map-append}
+use mathlib.Core.List.{cons≢nil}
 use Rattle.cdf_unit_table.specs.States.{admit, opens, nothing}
 use Rattle.cdf_unit_prefix.specs.Layout.{Layout}
 use Rattle.cdf_builder_write.specs.Patch.{patch}
@@ -16,20 +13,12 @@ use Rattle.cdf_builder_spec.specs.Requests.{Request, unit, group, id_of, bytes_f
 use Rattle.cdf_builder_spec.specs.Calls.{Reply, lengths}
 use Rattle.cdf_builder_spec.specs.declared.Begun.{Begun}
 use Rattle.cdf_builder_spec.proofs.Lengths.{length_lengths}
-use Rattle.cdf_builder_spec.proofs.Joining.{Joins, refused_is}
+use Rattle.cdf_builder_spec.proofs.Joining.{Joins, joining_none, joining_cons, refused_is}
 use Rattle.cdf_builder_spec.proofs.Replying.{entering_unit, entering_group, grown_written}
 use Rattle.cdf_builder_runs.specs.Runs.{answer, run, AllDone}
 use Rattle.cdf_builder_runs.proofs.Answers.{answer_called, answer_place, answer_buffer, first_done}
 use Rattle.cdf_builder_runs.proofs.Taken.{grown_by}
 use Rattle.cdf_builder_groups.proofs.Lengths.{further, Apart, lengths_both, lengths_front, lengths_behind, lengths_again}
-
-joining_one : (id : ℕ) (o : Begun) (os : List Begun) → joining id (o ∷ os) ≡ cond (eqb (admit o.state id) 0) (joining id os) (o ∷ os)
-unfolding joining
-joining_one id o os = refl
-
-joining_none : (id : ℕ) → joining id [] ≡ []
-unfolding joining
-joining_none id = refl
 
 -- The front is `base` bytes long, and these units are open around.
 module _ (base : ℕ) (os : List Begun) where
@@ -41,8 +30,8 @@ module _ (base : ℕ) (os : List Begun) where
       joining id (lifted xs) ≡ further base o ∷ lifted outer
   joining_over id [] o outer e = absurd (cons≢nil (sym (sym (joining_none id) ∙ e)))
   joining_over id (x ∷ xs) o outer e =
-      joining_one id (further base x) (lifted xs)
-      ∙ go (eqb (admit x.state id) 0) (sym (joining_one id x xs) ∙ e) (joining_over id xs o outer)
+      joining_cons id (further base x) (lifted xs)
+      ∙ go (eqb (admit x.state id) 0) (sym (joining_cons id x xs) ∙ e) (joining_over id xs o outer)
     where
       go : (b : Bool) → cond b (joining id xs) (x ∷ xs) ≡ o ∷ outer → (joining id xs ≡ o ∷ outer → joining id (lifted xs) ≡ further base o ∷ lifted outer) →
           cond b (joining id (lifted xs)) (further base x ∷ lifted xs) ≡ further base o ∷ lifted outer

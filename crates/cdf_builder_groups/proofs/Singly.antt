@@ -1,13 +1,7 @@
 -- A whole group that is added, against its units one by one: at any place, over a front of any bytes. Its units write over the front
 -- what a builder that was started for the group writes, and the lengths of the units around; so does the whole group.
-use Prim.Native.Nat.{ℕ, ◌+◌, ◌-◌, ◌≤◌}
-use mathlib.Core.Path.{◌≡◌, refl, sym, ap, ap₂, ◌∙◌}
-use mathlib.Core.Bool.{true}
-use mathlib.Core.List.{List, [], ◌∷◌, ◌++◌, map, append-nil}
-use mathlib.Core.Logic.{inl, inr}
-use native.Mathlib.Omega.{arith}
-use lib.ListN.{length, take, drop, length-drop, take-append-drop}
-use lib.Seq.{length-take-le}
+use Rattle.std.proofs.Common.{ℕ, ◌+◌, ◌-◌, ◌≤◌, ◌≡◌, refl, sym, ap, ap₂, ◌∙◌, true, List, [], ◌∷◌, ◌++◌, map, append-nil, inl, inr, arith, length}
+use Rattle.std.proofs.Common.{take, drop, length-drop, take-append-drop, length-take-le}
 use Rattle.cdf_unit_table.specs.Ids.{er_group, file_group}
 use Rattle.cdf_unit_table.specs.States.{admit, nothing, opens, root_kind}
 use Rattle.cdf_unit_table.proofs.Rows.{root_opens, opens_by}

@@ -1,94 +1,73 @@
 // What the builder asks before it writes: where a unit or a group joins, and whether all open units are complete.
-// A place is taken by its parts, which the builder's struct holds.
 #![tactic(auto)]
 
 ghost use Rattle.std.specs.Prelude.{◌≡◌};
 ghost use Rattle.cdf_builder_spec.specs.Requests.{joining, completed, join_number, advanced};
-ghost use Rattle.cdf_builder_spec.specs.Slots.{no_begun, units};
-ghost use Rattle.cdf_builder_faults.specs.Parts.{outside};
+ghost use Rattle.cdf_builder_spec.specs.Slots.{begun};
+ghost use Rattle.cdf_builder_join.specs.Joins.{refusal_of, number_told, left_open};
 
 use cdf_builder_spec::Begun;
+use cdf_open_units::{Left, OpenUnits};
+use cdf_refusal::Refusal;
 use cdf_unit_table::{is_complete, state_after};
 
-// Where a unit joins: 0, or the number of the rule that is broken; and the units then left open, so many, with `top` the innermost,
-// which has had the unit.
+// Why a unit does not join.
 #[derive(Clone, Copy)]
-pub struct Joined {
-    pub number: usize,
-    pub count: usize,
-    pub top: Begun,
+pub enum Unjoined {
+    // No open unit admits it.
+    Nowhere,
+    // One does, but a unit inside that one is incomplete.
+    Past(Left<Begun>),
 }
 
-// The unit around the innermost of so many.
-fn around(count: usize, o1: Begun, o2: Begun, o3: Begun) -> Begun
-    ensures { result ≡ outside count o1 o2 o3 }
-{
-    if count == 2 {
-        return o1;
+impl From<Unjoined> for Refusal {
+    ghost from_gives = { λ u r. r ≡ refusal_of u };
+
+    fn from(unjoined: Unjoined) -> Refusal {
+        match unjoined {
+            Unjoined::Nowhere => Refusal::NotAdmitted,
+            Unjoined::Past(_) => Refusal::Incomplete,
+        }
     }
-    if count == 3 {
-        return o2;
-    }
-    if count == 4 {
-        return o3;
-    }
-    Begun { state: 0, start: 0 }
 }
 
-// Joins the innermost open unit that admits the id: 7 and a unit of zeros where none does, 10 where one inside it is incomplete.
-pub fn join(id: usize, count: usize, top: Begun, o1: Begun, o2: Begun, o3: Begun) -> Joined
-    ensures number { result.number ≡ join_number (units count top o1 o2 o3) id 0 }
-    ensures left { units result.count result.top o1 o2 o3 ≡ advanced id (joining id (units count top o1 o2 o3)) }
-    ensures nowhere { result.number ≡ 7 → result.top ≡ no_begun }
+// Joins the innermost open unit that admits the id: those that are left open, the innermost of which has had the unit.
+pub fn join(id: usize, units: OpenUnits<Begun>) -> Result<Left<Begun>, Unjoined>
+    ensures number { number_told result ≡ join_number (begun units) id 0 }
+    ensures left { left_open units result ≡ advanced id (joining id (begun units)) }
 {
-    let mut left = count;
-    let mut inner = top;
+    let mut inner = units.top;
     let mut full = true;
-    while 0 < left {
-        let next = state_after(inner.state, id);
-        if next != 0 {
-            let unit = Begun {
-                state: next,
-                start: inner.start,
+    for left in (1..=units.count).rev() {
+        if let Some(next) = state_after(inner.state, id) {
+            let joined = Left {
+                count: left,
+                top: Begun {
+                    state: next,
+                    ..inner
+                },
             };
             if full {
-                return Joined {
-                    number: 0,
-                    count: left,
-                    top: unit,
-                };
+                return Ok(joined);
             }
-            return Joined {
-                number: 10,
-                count: left,
-                top: unit,
-            };
+            return Err(Unjoined::Past(joined));
         }
-        let whole = is_complete(inner.state);
-        full = full & whole;
-        inner = around(left, o1, o2, o3);
-        left = left - 1;
+        full &= is_complete(inner.state);
+        inner = units.around(left).unwrap_or(Begun::default());
     }
-    let none = Begun { state: 0, start: 0 };
-    Joined {
-        number: 7,
-        count: left,
-        top: none,
-    }
+    Err(Unjoined::Nowhere)
 }
 
 // Whether every open unit is complete.
-pub fn is_completed(count: usize, top: Begun, o1: Begun, o2: Begun, o3: Begun) -> bool
-    ensures { result ≡ completed (units count top o1 o2 o3) }
+pub fn is_completed(units: OpenUnits<Begun>) -> bool
+    ensures { result ≡ completed (begun units) }
 {
-    let mut left = count;
-    let mut inner = top;
-    while 0 < left {
+    let mut inner = units.top;
+    for left in (1..=units.count).rev() {
         if !is_complete(inner.state) {
             return false;
         }
-        inner = around(left, o1, o2, o3);
-        left = left - 1;
+        inner = units.around(left).unwrap_or(Begun::default());
     }
     true
 }

@@ -21,7 +21,6 @@ pub extern "C" fn cdf_build_next(
         ≡ call_from buffer.old place.old (unit (record { id = id; action = action; text = «data».now })) }
     ensures stays { (result ≡ 0 → ⊥) → place.new ≡ place.old }
 {
-    let p = builder_from(place);
-    let built = p.next(buffer, id as usize, action as usize, data);
-    store(built, place)
+    let answer = builder_from(place).next(buffer, id as usize, action as usize, data);
+    store(answer, place)
 }

@@ -1,17 +1,10 @@
 -- Requests that a tree of the published grammar tells are refused for nothing but where they join.
-use Prim.Native.Nat.{ℕ}
-use mathlib.Core.Path.{◌≡◌, refl}
-use mathlib.Core.Bool.{Bool, true, false, not, ◌||◌}
-use mathlib.Core.List.{List, [], ◌∷◌, append-nil}
-use mathlib.Core.Logic.{inl, inr}
-use borrow.Author.Tests.{eq-eqb}
-use lib.Dec.{eqb}
-use lib.ListN.{length}
+use Rattle.std.proofs.Common.{ℕ, ◌≡◌, refl, Bool, true, false, not, ◌||◌, List, [], ◌∷◌, append-nil, inl, inr, eq-eqb, eqb, length}
 use Rattle.cdf_unit_table.specs.Ids.{known, action_allowed, er_group, file_group}
 use Rattle.cdf_unit_table.specs.States.{opens}
 use Rattle.cdf_unit_prefix.specs.Layout.{Layout, id_at}
 use Rattle.cdf_unit_data.specs.Data.{own_data}
-use Rattle.cdf_unit_data.specs.declared.Own.TheVariants.{Taken}
+use Rattle.std.specs.Prelude.{Ok}
 use Rattle.cdf_unit_list.specs.Check.{check_of}
 use Rattle.cdf_grammar.specs.Trees.{Forest}
 use Rattle.cdf_grammar.specs.Published.{Among, Follows, TextIs, production_of}
@@ -27,13 +20,13 @@ right_is : (id : ℕ) (text : List ℕ) → right_data id text ≡ whole_data id
 unfolding right_data
 right_is id text = refl
 
-whole_is : (id : ℕ) (text : List ℕ) (k : ℕ) → whole_data id text (Taken k) ≡ (not (opens id) || eqb k (length text))
+whole_is : (id : ℕ) (text : List ℕ) (k : ℕ) → whole_data id text (Ok k) ≡ (not (opens id) || eqb k (length text))
 unfolding whole_data
 whole_is id text k = refl
 
 right : (id : ℕ) (text : List ℕ) → TextIs (production_of id).text text → right_data id text ≡ true
 right id text is =
-    let taken : own_data id text ≡ Taken (own_of id text) = rw append-nil at (text_taken id text [] is (λ o. refl)) in
+    let taken : own_data id text ≡ Ok (own_of id text) = rw append-nil at (text_taken id text [] is (λ o. refl)) in
     rw (right_is id text, taken, whole_is id text (own_of id text)) (go (opens id) refl)
   where
     go : (b : Bool) → opens id ≡ b → (not b || eqb (own_of id text) (length text)) ≡ true

@@ -1,5 +1,5 @@
 -- The runs of specs/Samples, computed from the definitions alone.
-use mathlib.Core.Path.{◌≡◌, refl}
+use Rattle.std.proofs.Common.{◌≡◌, refl}
 use Rattle.cdf_unit_table.specs.States.{unit_of, admits_kind, skipped}
 use Rattle.cdf_reader_spec.specs.Place.{nested, every}
 use Rattle.cdf_builder_spec.specs.Place.{past_prefix}

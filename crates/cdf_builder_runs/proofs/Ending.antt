@@ -1,11 +1,7 @@
 -- From what a place stands for to trees of the published grammar: where every open unit is complete, one tree is told; and in any
 -- case the requests begin some tree's.
-use Prim.Native.Nat.{ℕ, zero, suc, ◌≤◌, ◌<◌}
-use mathlib.Core.Path.{◌≡◌, refl, sym, ◌∙◌}
-use mathlib.Core.Bool.{true}
-use mathlib.Core.List.{List, [], ◌∷◌, ◌++◌, map, append-nil, append_assoc, map-append}
-use mathlib.Core.Logic.{inl}
-use native.Mathlib.Omega.{arith}
+use Rattle.std.proofs.Common.{ℕ, zero, suc, ◌≤◌, ◌<◌, ◌≡◌, refl, sym, ◌∙◌, true, List, [], ◌∷◌, ◌++◌, map, append-nil, append_assoc, inl, arith}
+use Rattle.std.proofs.lemmas.List.{map-append}
 use Rattle.cdf_unit_table.specs.States.{nothing, admit, states_end}
 use Rattle.cdf_unit_table.proofs.Rows.{admit_below}
 use Rattle.cdf_unit_prefix.specs.Layout.{Layout}

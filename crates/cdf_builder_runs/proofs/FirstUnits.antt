@@ -1,9 +1,6 @@
 -- The first units of a tree: what they say, that they are a tree, and that the buffer's front is their encoding.
-use Prim.Native.Nat.{ℕ, zero, suc, ◌-◌}
-use mathlib.Core.Path.{◌≡◌, refl, sym, ap, ap₂, ◌∙◌}
-use mathlib.Core.List.{List, [], ◌∷◌, ◌++◌, cons≢nil}
-use native.Mathlib.Omega.{arith}
-use lib.ListN.{length, take, length-append}
+use Rattle.std.proofs.Common.{ℕ, zero, suc, ◌-◌, ◌≡◌, refl, sym, ap, ap₂, ◌∙◌, List, [], ◌∷◌, ◌++◌, arith, length, take, length-append}
+use mathlib.Core.List.{cons≢nil}
 use lib.Seq.{take-nil, take-append_seam}
 use Rattle.cdf_unit_table.specs.Heights.{height}
 use Rattle.cdf_unit_prefix.specs.Layout.{Layout, layout_of}

@@ -1,7 +1,5 @@
 -- Trees after trees: their ids, their encoding, that they conform, and which requests tell of them.
-use mathlib.Core.Path.{◌≡◌, refl, sym}
-use mathlib.Core.List.{List, ◌++◌, append_assoc}
-use mathlib.Core.Logic.{inl, inr, ⊎_elim}
+use Rattle.std.proofs.Common.{◌≡◌, refl, sym, List, ◌++◌, append_assoc, inl, inr, ⊎_elim}
 use Rattle.cdf_unit_prefix.specs.Layout.{Layout}
 use Rattle.cdf_grammar.specs.Trees.{Forest, none, tree, ids}
 use Rattle.cdf_grammar.specs.Published.{Conforms}

@@ -1,10 +1,5 @@
 -- The requests that tell of a tree of the published grammar are admitted, and at their end every open unit is complete.
-use Prim.Native.Nat.{ℕ, ◌<◌}
-use mathlib.Core.Path.{◌≡◌, refl, sym, ap, ◌∙◌}
-use mathlib.Core.Bool.{Bool, true, false}
-use mathlib.Core.List.{List, [], ◌∷◌, ◌++◌, append_assoc, append-nil}
-use mathlib.Core.Logic.{inl, inr}
-use native.Mathlib.Omega.{arith}
+use Rattle.std.proofs.Common.{ℕ, ◌<◌, ◌≡◌, refl, sym, ap, ◌∙◌, Bool, true, false, List, [], ◌∷◌, ◌++◌, append_assoc, append-nil, inl, inr, arith}
 use Rattle.cdf_unit_table.specs.Ids.{er_group, file_group}
 use Rattle.cdf_unit_table.specs.States.{admit, complete, nothing, opens, root_kind, unit_of}
 use Rattle.cdf_unit_table.specs.Heights.{height}

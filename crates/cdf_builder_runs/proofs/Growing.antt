@@ -1,11 +1,7 @@
 -- Growing: more bytes and new lengths of the open units turn the encoding of trees, all open units ending here, into that of
 -- the longer ones. For any depth, any ids and any layout.
-use Prim.Native.Nat.{ℕ, ◌+◌, ◌-◌, ◌≤◌}
-use mathlib.Core.Path.{◌≡◌, refl, sym, ◌∙◌}
-use mathlib.Core.List.{List, [], ◌∷◌, ◌++◌, append_assoc, append-nil}
-use native.Mathlib.Omega.{arith}
-use lib.ListN.{length, take, drop, length-append, take-append-drop}
-use lib.Seq.{length-take-le}
+use Rattle.std.proofs.Common.{ℕ, ◌+◌, ◌-◌, ◌≤◌, ◌≡◌, refl, sym, ◌∙◌, List, [], ◌∷◌, ◌++◌, append_assoc, append-nil, arith, length, take, drop}
+use Rattle.std.proofs.Common.{length-append, take-append-drop, length-take-le}
 use Rattle.cdf_unit_prefix.specs.Layout.{Layout, prefix_of}
 use Rattle.cdf_grammar.specs.Trees.{Forest, none, tree}
 use Rattle.cdf_grammar.specs.Encoding.{bytes_of, prefix_bytes, encode}

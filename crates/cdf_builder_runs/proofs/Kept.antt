@@ -1,13 +1,6 @@
 -- What runs keep: the place stands for the requests so far, the buffer's front for their bytes, and what is behind it stays.
-use Prim.Native.Nat.{ℕ, ◌+◌, ◌-◌, ◌≤◌}
-use mathlib.Core.Path.{◌≡◌, refl, sym, ap, subst, ◌∙◌}
-use mathlib.Core.Bool.{true}
-use mathlib.Core.List.{List, [], ◌∷◌, ◌++◌, append-nil, append_assoc}
-use mathlib.Core.Logic.{inl}
-use native.Mathlib.Omega.{arith}
-use lib.Dec.{T}
-use lib.ListN.{length, take, drop, length-append, length-drop, take-append-drop}
-use lib.Seq.{take_at, drop_at, drop-drop, length-take-le}
+use Rattle.std.proofs.Common.{ℕ, ◌+◌, ◌-◌, ◌≤◌, ◌≡◌, refl, sym, ap, subst, ◌∙◌, true, List, [], ◌∷◌, ◌++◌, append-nil, append_assoc, inl, arith, T}
+use Rattle.std.proofs.Common.{length, take, drop, length-append, length-drop, take-append-drop, take_at, drop_at, drop-drop, length-take-le}
 use Rattle.cdf_unit_table.specs.Ids.{stream, er_group, file_group}
 use Rattle.cdf_unit_table.specs.States.{root_kind, nothing}
 use Rattle.cdf_unit_table.proofs.Match.{each, among}

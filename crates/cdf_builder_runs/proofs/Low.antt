@@ -1,8 +1,6 @@
 -- The trees that the open units come to once all end: their units are lower than those around them, there is one root, and the
 -- requests tell of them. Whether the open units are complete is not asked.
-use Prim.Native.Nat.{ℕ}
-use mathlib.Core.Path.{◌≡◌, ◌∙◌}
-use mathlib.Core.List.{List, [], ◌∷◌}
+use Rattle.std.proofs.Common.{ℕ, ◌≡◌, ◌∙◌, List, [], ◌∷◌}
 use Rattle.cdf_unit_table.specs.States.{nothing}
 use Rattle.cdf_unit_table.specs.Heights.{height}
 use Rattle.cdf_unit_table.proofs.Heights.{level, opens_lower}

@@ -1,22 +1,14 @@
 -- What a request is that no rule refuses: a unit that follows its production, or the bytes of a group's tree.
-use Prim.Native.Nat.{ℕ}
-use mathlib.Core.Path.{◌≡◌, refl}
-use mathlib.Core.Bool.{Bool, true, false, cond, not, ◌||◌, false≢true}
-use mathlib.Core.List.{List, [], ◌∷◌}
-use mathlib.Core.Logic.{inl, inr, ⊎_elim}
-use native.Mathlib.Omega.{arith}
-use borrow.Author.Tests.{eqb-true, not-false}
-use lib.Dec.{eqb}
-use lib.ListN.{length, take}
+use Rattle.std.proofs.Common.{ℕ, ◌≡◌, refl, Bool, true, false, cond, not, ◌||◌, List, [], ◌∷◌, inl, inr, ⊎_elim, arith, eqb-true, eqb, length, take}
+use Rattle.std.proofs.lemmas.Bool.{false≢true, not-false}
 use lib.Seq.{take-length}
 use Rattle.cdf_unit_table.specs.Ids.{known, action_allowed, er_group, file_group}
 use Rattle.cdf_unit_table.specs.States.{opens}
 use Rattle.cdf_unit_table.proofs.Bools.{both, either, past}
 use Rattle.cdf_unit_prefix.specs.Layout.{Layout, layout_of, id_at}
 use Rattle.cdf_unit_prefix.specs.declared.Edition.{Edition}
-use Rattle.cdf_unit_data.specs.Data.{own_data}
-use Rattle.cdf_unit_data.specs.declared.Own.{Own}
-use Rattle.cdf_unit_data.specs.declared.Own.TheVariants.{Taken, Broken}
+use Rattle.cdf_unit_data.specs.Data.{own_data, Own}
+use Rattle.std.specs.Prelude.{Ok, Err}
 use Rattle.cdf_unit_list.specs.Check.{check_of}
 use Rattle.cdf_grammar.specs.Trees.{Forest, none, tree}
 use Rattle.cdf_grammar.specs.Published.{Among, TextIs, production_of}
@@ -40,8 +32,8 @@ right_text id text real right = go (own_data id text) refl right
     part false k e = rw take-length
 
     go : (own : Own) → own_data id text ≡ own → whole_data id text own ≡ true → TextIs (production_of id).text text
-    go (Taken k) e w = (taken_text id real text k e text (part (opens id) k w)).0
-    go (Broken k) e w = absurd (false≢true w)
+    go (Ok k) e w = (taken_text id real text k e text (part (opens id) k w)).0
+    go (Err k) e w = absurd (false≢true w)
 
 pub record UnitPassed (os : List Begun) (u : Item) : Type 0 where
   pub joins : Joins os u.id

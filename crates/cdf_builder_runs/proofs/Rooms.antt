@@ -1,11 +1,5 @@
 -- Runs against admission: every call is done exactly if its requests are admitted and all their bytes have room.
-use Prim.Native.Nat.{ℕ, ◌+◌, ◌≤◌}
-use mathlib.Core.Path.{◌≡◌, refl, sym, ap, ◌∙◌}
-use mathlib.Core.Bool.{true}
-use mathlib.Core.List.{List, [], ◌∷◌}
-use mathlib.Core.Logic.{◌↔◌}
-use native.Mathlib.Omega.{arith}
-use lib.ListN.{length}
+use Rattle.std.proofs.Common.{ℕ, ◌+◌, ◌≤◌, ◌≡◌, refl, sym, ap, ◌∙◌, true, List, [], ◌∷◌, ◌↔◌, arith, length}
 use Rattle.cdf_unit_table.specs.States.{root_kind}
 use Rattle.cdf_unit_prefix.specs.Layout.{Layout, layout_of, prefix_of}
 use Rattle.cdf_unit_prefix.specs.declared.Edition.{Edition}

@@ -1,8 +1,5 @@
 -- What the requests for trees say is what the trees' units say; so one list of requests tells of one tree.
-use Prim.Native.Nat.{ℕ}
-use mathlib.Core.Path.{◌≡◌, refl, sym, ap, ◌∙◌}
-use mathlib.Core.List.{List, [], ◌∷◌, ◌++◌, map, append_assoc, append-nil}
-use mathlib.Core.Logic.{⊎_elim}
+use Rattle.std.proofs.Common.{ℕ, ◌≡◌, refl, sym, ap, ◌∙◌, List, [], ◌∷◌, ◌++◌, map, append_assoc, append-nil, ⊎_elim}
 use Rattle.cdf_unit_prefix.specs.Layout.{Layout, layout_of}
 use Rattle.cdf_unit_prefix.specs.declared.Edition.{Edition}
 use Rattle.cdf_grammar.specs.Trees.{Forest, none, tree}

@@ -1,12 +1,6 @@
 -- Open units that are complete and too low to admit what is asked for: a request passes them and joins the unit around them.
-use Prim.Native.Nat.{ℕ, ◌<◌, ◌≤◌}
-use mathlib.Core.Path.{◌≡◌, refl}
-use mathlib.Core.Bool.{Bool, true, false}
-use mathlib.Core.List.{List, [], ◌∷◌, ◌++◌, append-nil}
-use native.Mathlib.Omega.{arith}
-use borrow.Author.Tests.{eqb-true, eqb-false, ne_eqb}
-use lib.Dec.{eqb}
-use lib.ListN.{length}
+use Rattle.std.proofs.Common.{ℕ, ◌<◌, ◌≤◌, ◌≡◌, refl, Bool, true, false, List, [], ◌∷◌, ◌++◌, append-nil, arith, eqb-true, ne_eqb, eqb, length}
+use Rattle.std.proofs.lemmas.Bool.{eqb-false}
 use Rattle.cdf_unit_table.specs.States.{admit, complete, unit_of}
 use Rattle.cdf_unit_table.specs.Heights.{height}
 use Rattle.cdf_unit_table.proofs.Heights.{level, admit_lower}

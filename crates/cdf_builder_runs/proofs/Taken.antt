@@ -1,9 +1,6 @@
 -- A request that no rule refuses, taken from what the place stands for.
-use Prim.Native.Nat.{ℕ}
-use mathlib.Core.Path.{◌≡◌, refl, sym, ◌∙◌}
-use mathlib.Core.Bool.{Bool, true, false, false≢true}
-use mathlib.Core.List.{List, [], ◌∷◌, ◌++◌, append-nil}
-use mathlib.Core.Logic.{inl, inr}
+use Rattle.std.proofs.Common.{ℕ, ◌≡◌, refl, sym, ◌∙◌, Bool, true, false, List, [], ◌∷◌, ◌++◌, append-nil, inl, inr}
+use Rattle.std.proofs.lemmas.Bool.{false≢true}
 use Rattle.cdf_unit_table.specs.States.{opens, nothing, admit}
 use Rattle.cdf_unit_prefix.specs.Layout.{Layout, layout_of, id_at}
 use Rattle.cdf_unit_prefix.specs.declared.Edition.{Edition}

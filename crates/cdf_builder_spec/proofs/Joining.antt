@@ -1,12 +1,6 @@
 -- Which open unit a new one joins, and what a request that is not refused tells.
-use Prim.Native.Nat.{ℕ}
-use mathlib.Core.Path.{◌≡◌, refl, sym, ap, ◌∙◌}
-use mathlib.Core.Bool.{Bool, true, false, not, cond, false≢true}
-use mathlib.Core.List.{List, [], ◌∷◌, ◌++◌}
-use native.Mathlib.Omega.{arith}
-use borrow.Author.Tests.{eq-eqb, ne_eqb, eqb-false, not-false}
-use lib.Dec.{eqb}
-use lib.ListN.{length}
+use Rattle.std.proofs.Common.{ℕ, ◌≡◌, refl, sym, ap, ◌∙◌, Bool, true, false, not, cond, List, [], ◌∷◌, ◌++◌, arith, eq-eqb, ne_eqb, eqb, length}
+use Rattle.std.proofs.lemmas.Bool.{false≢true, eqb-false, not-false}
 use Rattle.cdf_unit_table.specs.Ids.{known, action_allowed}
 use Rattle.cdf_unit_table.specs.States.{admit, complete}
 use Rattle.cdf_unit_table.proofs.Bools.{both, past}
@@ -17,11 +11,11 @@ use Rattle.cdf_builder_spec.specs.Requests.{Request, unit, group, id_of, joining
 use Rattle.cdf_builder_spec.specs.Requests.{right_data, accepted_group, refused}
 
 -- The definitions, one case at a time: they stay shut, and the rows in them too.
-joining_none : (id : ℕ) → joining id [] ≡ []
+pub joining_none : (id : ℕ) → joining id [] ≡ []
 unfolding joining
 joining_none id = refl
 
-joining_cons : (id : ℕ) (o : Begun) (os : List Begun) →
+pub joining_cons : (id : ℕ) (o : Begun) (os : List Begun) →
     joining id (o ∷ os) ≡ cond (eqb (admit o.state id) 0) (joining id os) (o ∷ os)
 unfolding joining
 joining_cons id o os = refl

@@ -1,11 +1,6 @@
 -- A place that comes with the number 0 fits the buffer.
-use Prim.Native.Nat.{ℕ, ◌+◌, ◌≤◌}
-use mathlib.Core.Path.{◌≡◌, refl, sym, ◌∙◌}
-use mathlib.Core.Bool.{Bool, true, false, cond, false≢true}
-use mathlib.Core.List.{List, [], ◌∷◌, ◌++◌}
-use native.Mathlib.Omega.{arith}
-use lib.Dec.{eqb}
-use lib.ListN.{length}
+use Rattle.std.proofs.Common.{ℕ, ◌+◌, ◌≤◌, ◌≡◌, refl, sym, ◌∙◌, Bool, true, false, cond, List, [], ◌∷◌, ◌++◌, arith, eqb, length}
+use Rattle.std.proofs.lemmas.Bool.{false≢true}
 use Rattle.cdf_unit_table.specs.States.{rows, parents, admit, nothing, opens, unit_of, skipped, root_kind, admits_kind}
 use Rattle.cdf_unit_table.proofs.Tests.{is_true}
 use Rattle.cdf_unit_table.proofs.Rows.{from_rows, from_parents, admit_kind, admits_nested, root_opens, opens_by, leaf_by}

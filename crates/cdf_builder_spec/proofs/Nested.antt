@@ -1,12 +1,6 @@
 -- Open units of a builder's place that lie in one another, as facts.
-use Prim.Native.Nat.{ℕ, ◌+◌, ◌≤◌}
-use mathlib.Core.Path.{◌≡◌}
-use mathlib.Core.Bool.{true, false≢true}
-use mathlib.Core.List.{List, [], ◌∷◌, ◌++◌}
-use native.Mathlib.Omega.{arith}
-use borrow.Author.Tests.{leb-true, le-leb, eqb-true, eq-eqb}
-use lib.Dec.{leb}
-use lib.ListN.{length}
+use Rattle.std.proofs.Common.{ℕ, ◌+◌, ◌≤◌, ◌≡◌, true, List, [], ◌∷◌, ◌++◌, arith, leb-true, le-leb, eqb-true, eq-eqb, leb, length}
+use Rattle.std.proofs.lemmas.Bool.{false≢true}
 use Rattle.cdf_unit_table.specs.States.{unit_of, root_kind, admits_kind}
 use Rattle.cdf_unit_table.proofs.Bools.{both}
 use Rattle.cdf_unit_prefix.specs.Layout.{Layout, prefix_of}

@@ -1,9 +1,5 @@
 -- A call's number is that of the first rule that is broken: the definitions ask in the order of the lists.
-use Prim.Native.Nat.{ℕ}
-use mathlib.Core.Path.{◌≡◌, refl, ◌∙◌}
-use mathlib.Core.Bool.{Bool, true, false, cond, not}
-use mathlib.Core.List.{List}
-use lib.ListN.{length}
+use Rattle.std.proofs.Common.{ℕ, ◌≡◌, refl, ◌∙◌, Bool, true, false, cond, not, List, length}
 use Rattle.cdf_unit_prefix.specs.Layout.{Layout, id_at}
 use Rattle.cdf_grammar.specs.Encoding.{Item}
 use Rattle.cdf_builder_spec.specs.Place.{BuilderPlace, fits}

@@ -1,5 +1,5 @@
 -- The claims of this crate, proved.
-use mathlib.Core.Path.{◌≡◌, refl}
+use Rattle.std.proofs.Common.{◌≡◌, refl}
 use Rattle.cdf_unit_table.specs.States.{unit_of, root_kind, admits_kind, skipped}
 use Rattle.cdf_reader_spec.specs.Place.{nested, every}
 use Rattle.cdf_builder_spec.specs.Place.{past_prefix, clauses}

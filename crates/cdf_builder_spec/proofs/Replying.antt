@@ -1,13 +1,7 @@
 -- The builder's calls, one stage at a time. To unfold a call would unfold the rows too, so these equations stand for that.
-use Prim.Native.Nat.{ℕ, ◌+◌, ◌≤◌}
-use mathlib.Core.Path.{◌≡◌, refl, sym, subst, ◌∙◌}
-use mathlib.Core.Bool.{true, not, cond}
-use mathlib.Core.List.{List, [], ◌∷◌, ◌++◌}
-use mathlib.Core.Logic.{◌↔◌}
-use native.Mathlib.Omega.{arith}
-use borrow.Author.Tests.{eq-eqb, ne_eqb, eqb-true, not-false, ltb-false, le-ltb}
-use lib.Dec.{T, ltb, eqb}
-use lib.ListN.{length}
+use Rattle.std.proofs.Common.{ℕ, ◌+◌, ◌≤◌, ◌≡◌, refl, sym, subst, ◌∙◌, true, not, cond, List, [], ◌∷◌, ◌++◌, ◌↔◌, arith, eq-eqb, ne_eqb, eqb-true}
+use Rattle.std.proofs.Common.{ltb-false, le-ltb, T, ltb, eqb, length}
+use Rattle.std.proofs.lemmas.Bool.{not-false}
 use Rattle.cdf_unit_table.specs.Ids.{known, stream, er_group, file_group}
 use Rattle.cdf_unit_table.specs.States.{opens, nothing, admit, root_kind}
 use Rattle.cdf_unit_table.proofs.Bools.{past, of_cond}

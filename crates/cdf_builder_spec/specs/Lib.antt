@@ -5,3 +5,4 @@ pub mod Calls
 pub mod Orders
 pub mod NearMisses
 pub mod Claims
+pub mod Told

@@ -1,11 +1,9 @@
 -- What the builder is asked for, where it joins, and the rules that ask nothing of the room (01, "Builder").
-use Rattle.std.specs.Prelude.{ℕ, ◌+◌, Bool, true, false, cond, not, ◌&&◌, ◌||◌, List, [], ◌∷◌, ◌++◌, length, eqb}
+use Rattle.std.specs.Prelude.{ℕ, ◌+◌, Bool, true, false, cond, not, ◌&&◌, ◌||◌, List, [], ◌∷◌, ◌++◌, length, eqb, Ok, Err}
 use Rattle.cdf_unit_table.specs.Ids.{known, action_allowed}
 use Rattle.cdf_unit_table.specs.States.{opens, nothing, admit, complete}
 use Rattle.cdf_unit_prefix.specs.Layout.{Layout, id_at}
-use Rattle.cdf_unit_data.specs.Data.{own_data, own_data_by}
-use Rattle.cdf_unit_data.specs.declared.Own.{Own}
-use Rattle.cdf_unit_data.specs.declared.Own.TheVariants.{Taken, Broken}
+use Rattle.cdf_unit_data.specs.Data.{own_data, own_data_by, Own}
 use Rattle.cdf_unit_list.specs.Check.{check_of}
 use Rattle.cdf_grammar.specs.Encoding.{unit_bytes, Item}
 use Rattle.cdf_reader_spec.specs.Calls.{is_group}
@@ -54,8 +52,8 @@ join_number os id next = cond (eqb (length (joining id os)) 0) 7 (cond (not (com
 -- The own data is right and there is no more of it: a unit that admits others holds only its name or its numbers so far.
 unfoldable pub whole_data : ℕ → List ℕ → Own → Bool
 unfolding opens
-whole_data id text (Taken k) = not (opens id) || eqb k (length text)
-whole_data id text (Broken k) = false
+whole_data id text (Ok k) = not (opens id) || eqb k (length text)
+whole_data id text (Err k) = false
 
 unfoldable pub right_data : ℕ → List ℕ → Bool
 unfolding whole_data own_data_by

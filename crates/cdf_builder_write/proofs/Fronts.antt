@@ -1,36 +1,35 @@
--- The loop that writes a number to the front of a tail.
-use mathlib.Core.Path.{◌≡◌, ap}
-use mathlib.Core.List.{List, [], ◌∷◌, ◌++◌}
-use Prim.Native.Nat.{ℕ, suc, ◌+◌, ◌-◌, ◌/◌, ◌%◌, ◌≤◌, ◌<◌}
-use native.Mathlib.Omega.{arith}
-use lib.ListN.{length, drop, set, length-set}
-use lib.Seq.{drop-cons, append_snoc, drop-set-lt, get_or-set_same}
+-- The last bytes of a number as the library has them are the format's bytes of it.
+use Rattle.std.proofs.Common.{◌≡◌, refl, sym, ap, ap₂, ◌∙◌, [], ◌∷◌, ◌++◌, ℕ, zero, suc, ◌-◌, ◌/◌, ◌%◌, ◌^◌, ◌≤◌, pow-suc, mul_comm, arith, take}
+use Rattle.std.proofs.Common.{drop}
+use native.Mathlib.Nat.{div-div-eq-div-mul}
+use native.Mathlib.Numerals.{unary_clauses}
+use lib.Seq.{take-length}
+use Rattle.std.specs.Int.{byte_at, bytes_high_first, to_be_bytes, w64}
 use Rattle.cdf_grammar.specs.Encoding.{bytes_of}
+use Rattle.cdf_grammar.proofs.Numbers.{length_bytes_lem}
 
--- What is left of the number goes into the first i bytes.
-pub record Numbered (width : ℕ) (tail₀ : List ℕ) (number : ℕ) (tail : List ℕ) (i n : ℕ) : Type 0 where
-  pub within : i ≤ width
-  pub is : bytes_of i n ++ drop i tail ≡ bytes_of width number ++ drop width tail₀
-  pub long : length tail ≡ length tail₀
+-- without its first ones
+without : (j k n : ℕ) → drop j (bytes_high_first k n) ≡ bytes_high_first (k - j) n
+without zero k n = simp unary_clauses refl
+without (suc j) zero n = let none : 0 - suc j ≡ 0 = omega arith in rw none refl
+without (suc j) (suc k) n = simp unary_clauses (without j k n)
 
-pub numbered_more : {width : ℕ} {tail₀ : List ℕ} {number : ℕ} {tail : List ℕ} {i n : ℕ} → Numbered width tail₀ number tail i n →
-    0 < i → i ≤ length tail → Numbered width tail₀ number (set tail (i - 1) (n % 256)) (i - 1) (n / 256)
+next_byte : (k n : ℕ) → byte_at (suc k) n ≡ byte_at k (n / 256)
+next_byte zero n = refl
+next_byte (suc k) n =
+    ap (λ m. n / m % 256) (pow-suc 256 (suc k) ∙ mul_comm (256 ^ suc k) 256) ∙ ap (λ m. m % 256) (sym (div-div-eq-div-mul n 256 (256 ^ suc k)))
+
+last_apart : (k n : ℕ) → bytes_high_first (suc k) n ≡ bytes_high_first k (n / 256) ++ (n % 256 ∷ [])
+last_apart zero n = refl
+last_apart (suc k) n = ap₂ (λ b s. b ∷ s) (next_byte k n) (last_apart k n)
+
+high_first : (k n : ℕ) → bytes_high_first k n ≡ bytes_of k n
 unfolding bytes_of
-numbered_more {width} {tail₀} {number} {tail} {i} {n} f h k =
-    let j = i - 1 in
-    let x = n % 256 in
-    let e : i ≡ suc j = omega arith in
-    let inside : j < length tail = omega arith in
-    let cut = drop-cons (set tail j x) j 0 (simp length-set inside) in
-    let last : drop j (set tail j x) ≡ x ∷ drop (suc j) tail = rw (cut, get_or-set_same, drop-set-lt (suc j) tail j x (omega arith)) in
-    let same : bytes_of i n ++ drop i tail ≡ (bytes_of j (n / 256) ++ (x ∷ [])) ++ drop (suc j) tail = ap (λ m. bytes_of m n ++ drop m tail) e in
-    record {
-      within = omega arith;
-      is = rw (last, ← append_snoc (bytes_of j (n / 256)) x (drop (suc j) tail), ← same) f.is;
-      long = rw length-set f.long;
-    }
+high_first zero n = refl
+high_first (suc k) n = last_apart k n ∙ ap (λ s. s ++ (n % 256 ∷ [])) (high_first k (n / 256))
 
-pub numbered_all : {width : ℕ} {tail₀ : List ℕ} {number : ℕ} {tail : List ℕ} {i n : ℕ} → Numbered width tail₀ number tail i n →
-    i ≤ 0 → tail ≡ bytes_of width number ++ drop width tail₀
-unfolding bytes_of
-numbered_all {i = i} f h = let e : i ≡ 0 = omega arith in rw e at f.is
+pub last_bytes : (width n : ℕ) → width ≤ 8 → take (8 - (8 - width)) (drop (8 - width) (to_be_bytes w64 n)) ≡ bytes_of width n
+last_bytes width n h =
+    let same : 8 - (8 - width) ≡ width = omega arith in
+    let all : take width (bytes_of width n) ≡ bytes_of width n = rw (length_bytes_lem width n) at (take-length (bytes_of width n)) in
+    rw (without (8 - width) 8 n, same, high_first width n) all

@@ -1,13 +1,8 @@
 -- A tail that was lent, when it is back with new bytes at its front.
-use mathlib.Core.Path.{◌≡◌, refl, sym, ◌∙◌}
-use mathlib.Core.Bool.{Bool, true, false}
-use mathlib.Core.List.{List, [], ◌∷◌, ◌++◌, append_assoc, append-nil}
-use Prim.Native.Nat.{ℕ, suc, ◌+◌, ◌-◌, ◌≤◌}
-use native.Mathlib.Omega.{arith}
-use borrow.Author.Tests.{leb-true, leb-false}
-use lib.Dec.{leb}
-use lib.ListN.{length, take, drop, get_or, set, length-append}
-use lib.Seq.{take_at, drop_at, drop-cons, drop-drop, append_snoc, set_at}
+use Rattle.std.proofs.Common.{◌≡◌, refl, sym, ◌∙◌, Bool, true, false, List, [], ◌∷◌, ◌++◌, append_assoc, append-nil, ℕ, suc, ◌+◌, ◌-◌, ◌≤◌, arith}
+use Rattle.std.proofs.Common.{leb-true, leb-false, leb, length, take, drop, get_or, set, length-append, take_at, drop_at, drop-cons, drop-drop}
+use Rattle.std.proofs.lemmas.List.{set_at}
+use lib.Seq.{append_snoc}
 use borrow.Rule.Slice.PartMut.{put_mid}
 use Rattle.cdf_unit_prefix.specs.Layout.{Layout, prefix_of}
 use Rattle.cdf_grammar.specs.Encoding.{bytes_of, prefix_bytes, unit_bytes}

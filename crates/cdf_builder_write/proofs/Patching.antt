@@ -1,12 +1,9 @@
 -- What a patch leaves, in the parts of the list that it is made to.
-use mathlib.Core.Path.{◌≡◌, refl}
-use mathlib.Core.List.{List, ◌++◌, append_assoc}
-use Prim.Native.Nat.{ℕ, ◌+◌, ◌-◌, ◌≤◌, ◌<◌}
-use native.Mathlib.Omega.{arith}
-use borrow.Author.Tests.{leb-true, leb-false, le-leb, lt-leb}
-use lib.Dec.{leb}
-use lib.ListN.{length, take, drop, length-append, length-take, length-drop}
-use lib.Seq.{take-append_seam, take-append-le, drop-append-le, take-append-add, drop-append-add, drop_at}
+use Rattle.std.proofs.Common.{◌≡◌, refl, List, ◌++◌, append_assoc, ℕ, ◌+◌, ◌-◌, ◌≤◌, ◌<◌, arith, leb-true, leb-false, le-leb, leb, length, take, drop}
+use Rattle.std.proofs.Common.{length-append, length-take, length-drop, drop_at}
+use Rattle.std.proofs.lemmas.Bool.{lt-leb}
+use Rattle.std.proofs.lemmas.List.{take-append-le, drop-append-le}
+use lib.Seq.{take-append_seam, take-append-add, drop-append-add}
 use Rattle.cdf_unit_table.proofs.Bools.{of_cond}
 use Rattle.cdf_builder_write.specs.Patch.{patch}
 

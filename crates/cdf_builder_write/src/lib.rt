@@ -19,19 +19,12 @@ fn has_room(n: usize, at: usize, count: usize) -> bool
     at <= n - count
 }
 
-// The functions named put_.. are lent only the tail that begins at the writing place. This one writes a number in `width` bytes, from
-// the last byte to the first.
+// The functions named put_.. are lent only the tail that begins at the writing place. This one writes a number's last `width` bytes.
 fn put_number(width: usize, tail: &mut [u8], number: usize)
-    requires { width ≤ length tail.old }
+    requires { (width ≤ 8) × (width ≤ length tail.old) }
     ensures { tail.new ≡ bytes_of width number ++ drop width tail.old }
 {
-    let mut i = width;
-    let mut n = number;
-    while 0 < i {
-        i -= 1;
-        tail[i] = (n % 256) as u8;
-        n = n / 256;
-    }
+    tail[..width].copy_from_slice(&number.to_be_bytes()[8 - width..]);
 }
 
 // How many bytes a length has.

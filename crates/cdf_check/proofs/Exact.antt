@@ -1,27 +1,20 @@
 -- The cases of an answer: what the recursive check gives is the unit list's, in document 01's numbers, and 'accepted' is said
 -- exactly of the streams of the published grammar.
-use Prim.Native.Nat.{ℕ, suc, ◌<◌}
-use mathlib.Core.Path.{◌≡◌, refl, sym, ap, ◌∙◌}
-use mathlib.Core.Bool.{Bool, true, false}
-use mathlib.Core.List.{List, [], ◌∷◌}
-use mathlib.Core.Logic.{◌↔◌}
-use native.Mathlib.Omega.{arith}
-use lib.ListN.{length, get_or}
+use Rattle.std.proofs.Common.{ℕ, suc, ◌<◌, ◌≡◌, refl, sym, ap, ◌∙◌, Bool, true, false, List, [], ◌∷◌, ◌↔◌, arith, length, get_or}
 use Rattle.cdf_unit_table.proofs.Bools.{clash}
 use Rattle.cdf_unit_prefix.specs.Layout.{Layout, layout_of}
 use Rattle.cdf_unit_prefix.specs.declared.Edition.{Edition}
-use Rattle.cdf_unit_judge.specs.Judge.{judge_of}
-use Rattle.cdf_unit_judge.specs.declared.Judged.{Judged}
+use Rattle.cdf_unit_judge.specs.Judge.{judge_of, Judged}
 use Rattle.cdf_unit_list.specs.Units.{End, unfinished, ended, fault, list_by, listing, listing_in}
 use Rattle.cdf_unit_list.specs.Check.{Verdict, check_of, check_in}
 use Rattle.cdf_unit_list.proofs.Numbered.{numbered}
 use Rattle.cdf_grammar.specs.Trees.{Forest, units}
 use Rattle.cdf_grammar.specs.Encoding.{Bytes, Stream}
 use Rattle.cdf_grammar.proofs.Proved.{proved}
-use Rattle.cdf_check.specs.Answers.{checked_by, checked_of, as_answer}
+use Rattle.std.specs.Prelude.{Result, Ok, Err}
+use Rattle.cdf_refusal.specs.declared.Fault.{Fault}
+use Rattle.cdf_check.specs.Answers.{Checked, Accepted, Refused, checked, checked_by, checked_of, as_answer}
 use Rattle.cdf_check.specs.Walk.{front}
-use Rattle.cdf_check.specs.declared.Checked.{Checked}
-use Rattle.cdf_check.specs.declared.Checked.TheVariants.{Accepted, Refused}
 use Rattle.cdf_check.proofs.Same.{same, answer_same}
 
 -- A slice's elements are bytes.
@@ -73,3 +66,11 @@ module _ (e : Edition) (s : List ℕ) (b : Bytes s) where
       λ a. clash cc,
       λ w. absurd (refused_numbered (layout_of e) s true 0 k at q (ap (λ (x : Verdict). x.number) (p ∙ counted w.0 w.1))),
     )
+
+-- An answer of the code is Ok exactly where it says 'accepted'.
+pub accepted_iff : (r : Result ℕ Fault) (n : ℕ) {X : Type 0} → (checked r ≡ Accepted n) ↔ X → (r ≡ Ok n) ↔ X
+accepted_iff r n w = (λ e. w.0 (ap checked e), λ x. back r (w.1 x))
+  where
+    back : (r : Result ℕ Fault) → checked r ≡ Accepted n → r ≡ Ok n
+    back (Ok m) e = let same : m ≡ n = cc in ap Ok same
+    back (Err f) e = clash cc

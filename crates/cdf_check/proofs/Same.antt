@@ -1,32 +1,23 @@
 -- The recursive check answers as the stack's steps do, and so as the unit list, for all bytes.
-use mathlib.Core.Path.{◌≡◌, refl, sym, ap}
-use mathlib.Core.Bool.{Bool, false, true, cond}
-use mathlib.Core.List.{List, [], ◌∷◌}
-use Prim.Native.Nat.{ℕ, zero, suc, ◌≤◌, ◌<◌, ◌+◌}
-use native.Mathlib.Omega.{arith}
-use borrow.Author.Tests.{ltb-true, ltb-false, eq-eqb, ne_eqb}
-use lib.Dec.{ltb}
-use lib.ListN.{length, take, drop, length-drop, length-reverse}
+use Rattle.std.proofs.Common.{◌≡◌, refl, sym, ap, Bool, false, true, cond, List, [], ◌∷◌, ℕ, zero, suc, ◌≤◌, ◌<◌, ◌+◌, arith, ltb-true, ltb-false}
+use Rattle.std.proofs.Common.{eq-eqb, ne_eqb, ltb, length, take, drop, length-drop}
+use Rattle.std.proofs.lemmas.List.{length-reverse}
 use lib.Seq.{take-length}
 use Rattle.cdf_unit_prefix.specs.Layout.{Layout}
 use Rattle.cdf_unit_table.specs.States.{opens, nothing, complete}
-use Rattle.cdf_unit_judge.specs.Judge.{judge_of}
+use Rattle.cdf_unit_judge.specs.Judge.{judge_of, Judged, Fault, Found}
 use Rattle.cdf_unit_list.specs.Units.{End, unfinished, ended, fault, Listing, list_by}
 use Rattle.cdf_unit_list.specs.Stack.{incomplete, close, Step, done, refused, found, entered, step_in, step, step_by}
 use Rattle.cdf_unit_list.specs.Steps.{steps_from, steps}
 use Rattle.cdf_unit_list.specs.Check.{answer_of, answer}
 use Rattle.cdf_unit_list.specs.declared.Unit.{Unit}
 use Rattle.cdf_unit_list.specs.declared.Open.{Open}
-use Rattle.cdf_unit_judge.specs.declared.Judged.{Judged}
-use Rattle.cdf_unit_judge.specs.declared.Judged.TheVariants.{Fault, Found}
 use Rattle.cdf_unit_judge.proofs.Placed.{placed}
 use Rattle.cdf_unit_list.proofs.Agreement.{follows}
 use Rattle.cdf_unit_list.proofs.Fuel.{finishes}
-use Rattle.cdf_check.specs.Answers.{checked_by, checked_of, as_answer}
+use Rattle.cdf_check.specs.Answers.{checked_by, checked_of, as_answer, Checked, Accepted, Refused}
 use Rattle.cdf_check.specs.Walk.{Nested, finish, and_then, turn, walk, inside_of, front}
 use Rattle.cdf_unit_table.specs.Heights.{height_in}
-use Rattle.cdf_check.specs.declared.Checked.{Checked}
-use Rattle.cdf_check.specs.declared.Checked.TheVariants.{Accepted, Refused}
 use Rattle.cdf_unit_table.proofs.Heights.{falls, opens_lower, height_most}
 use Rattle.cdf_unit_table.proofs.Parts.{Part, left_of, part_of}
 

@@ -1,29 +1,21 @@
 -- The walk over the places of a unit, turn by turn, as the loop of `check_inside` takes them, a unit as `check_unit` takes it, and
 -- the unit at the front.
-use mathlib.Core.Path.{◌≡◌, refl, sym, ◌∙◌}
-use mathlib.Core.Bool.{Bool, false, true, cond}
-use mathlib.Core.List.{List}
-use Prim.Native.Nat.{ℕ, zero, suc, ◌≤◌, ◌<◌, ◌+◌, ◌-◌}
-use native.Mathlib.Omega.{arith}
-use native.Mathlib.Numerals.{sub-one}
-use borrow.Author.Tests.{lt-ltb, le-ltb}
-use lib.ListN.{length, take, drop, length-drop}
+use Rattle.std.proofs.Common.{◌≡◌, refl, sym, ◌∙◌, Bool, false, true, cond, List, ℕ, zero, suc, ◌≤◌, ◌<◌, ◌+◌, ◌-◌, arith, sub-one, lt-ltb, le-ltb}
+use Rattle.std.proofs.Common.{length, take, drop, length-drop}
 use Rattle.cdf_unit_prefix.specs.Layout.{Layout, prefix_of}
-use Rattle.cdf_unit_prefix.specs.Rules.{head_of}
-use Rattle.cdf_unit_prefix.specs.declared.Header.{Header}
-use Rattle.cdf_unit_prefix.specs.declared.Header.TheVariants.{Stop, Prefix}
+use Rattle.cdf_unit_prefix.specs.Rules.{head_of, Head, Stop, Prefix}
 use Rattle.cdf_unit_table.specs.States.{admit, admits, opens, nothing, complete}
-use Rattle.cdf_unit_judge.specs.Judge.{body_of, found_by, judge_of}
-use Rattle.cdf_unit_judge.specs.declared.Body.{Body}
-use Rattle.cdf_unit_judge.specs.declared.Body.TheVariants.{Action, Data, Whole}
-use Rattle.cdf_unit_judge.specs.declared.Judged.{Judged}
-use Rattle.cdf_unit_judge.specs.declared.Judged.TheVariants.{Fault, Found}
+use Rattle.cdf_unit_judge.specs.Judge.{body_of, found_by, judge_of, Body, Action, Data, Whole, Judged, Fault, Found}
+use Rattle.std.specs.Prelude.{Err}
+use Rattle.cdf_unit_judge.specs.declared.BodyFault.{BodyFault}
+use Rattle.cdf_unit_judge.specs.declared.BodyFault.TheVariants.{Action as BadAction, Data as BadData}
+use Rattle.cdf_unit_judge.specs.Answers.{bodied, byte_of, fault_of}
+use Rattle.cdf_unit_judge.proofs.Placed.{fault_fits}
 use Rattle.cdf_unit_judge.proofs.Stages as stages
 use Rattle.cdf_unit_judge.proofs.Stages.{bounds}
 use Rattle.cdf_check.specs.Walk.{Nested, finish, and_then, turn, walk, inside_of, unit_by, checked_unit, front}
 use Rattle.cdf_unit_table.specs.Heights.{height, height_in}
-use Rattle.cdf_check.specs.declared.Checked.{Checked}
-use Rattle.cdf_check.specs.declared.Checked.TheVariants.{Accepted, Refused}
+use Rattle.cdf_check.specs.Answers.{Checked, Accepted, Refused, checked}
 use Rattle.cdf_unit_table.proofs.Heights.{falls}
 use Rattle.cdf_unit_table.proofs.Parts.{minus_plus, drop-take}
 use Rattle.cdf_unit_table.proofs.Rows.{admits_nested, opens_by, leaf_by}
@@ -96,7 +88,7 @@ module _ {l : Layout} {levels : ℕ} {s : List ℕ} {state base body count at no
       go false e = refusal (base + length s) e
 
   -- x is what the prefix says that stands there.
-  module _ (h : at < length s) (x : Header) (is : x ≡ head_of l false (drop at s)) where
+  module _ (h : at < length s) (x : Head) (is : x ≡ head_of l false (drop at s)) where
     turns : {j : Judged} → j ≡ judge_of l false now (drop at s) →
         inside_of l levels s state base body count
         ≡ turn (inside_of l (levels - 1)) (λ next len m. walk l (inside_of l (levels - 1)) (g.fuel - 1) s base next (at + len) m)
@@ -158,6 +150,11 @@ module _ {l : Layout} {levels : ℕ} {s : List ℕ} {state base body count at no
               same = answers ∙ rw (← q, f);
             }
 
+-- The byte of a body's fault lies in the bytes that were judged.
+pub byte_fits : (id action : ℕ) (t : List ℕ) (f : BodyFault) → body_of id action t ≡ bodied (Err f) → byte_of f ≤ length t
+byte_fits id action t BadAction e = omega arith
+byte_fits id action t (BadData k) e = fault_fits _ id action t k e
+
 -- The unit s, as `check_unit` takes it: its prefix has p bytes, and c is what its action and own data are found to be.
 module _ (l : Layout) (levels : ℕ) (s : List ℕ) (id action base n p : ℕ) (prefixed : p ≡ prefix_of l) (c : Body)
     (is : c ≡ body_of id action (drop p s)) where
@@ -168,13 +165,18 @@ module _ (l : Layout) (levels : ℕ) (s : List ℕ) (id action base n p : ℕ) (
   unfolding checked_unit
   by e = rw (← prefixed, ← is, e)
 
-  pub no_action : c ≡ Action → Alone (Refused 8 base)
+  no_action : c ≡ Action → Alone (Refused 8 base)
   unfolding unit_by
   no_action e = refusal (base + length s) (by e)
 
-  pub no_data : {k : ℕ} → c ≡ Data k → Alone (Refused 9 (base + p + k))
+  no_data : {k : ℕ} → c ≡ Data k → Alone (Refused 9 (base + p + k))
   unfolding unit_by
   no_data e = rw prefixed (refusal (base + length s) (by e))
+
+  -- As the code tells a body's fault.
+  pub no_body : (f : BodyFault) → c ≡ bodied (Err f) → Alone (checked (Err (fault_of base (base + p) f)))
+  no_body BadAction e = no_action e
+  no_body (BadData k) e = no_data e
 
   -- `first` is the unit's first state, if it admits others.
   module _ {k : ℕ} (e : c ≡ Whole k) (first : ℕ) (begins : first ≡ nothing id) where

@@ -1,9 +1,19 @@
 -- The answers that the check gives, as the cases of `Checked` and as document 01 numbers them.
-use Rattle.std.specs.Prelude.{ℕ, length}
+use Rattle.std.specs.Prelude.{ℕ, length, Result, Ok, Err}
 use Rattle.cdf_unit_list.specs.Units.{End, unfinished, ended, fault, Listing}
 use Rattle.cdf_unit_list.specs.Check.{Verdict}
-use Rattle.cdf_check.specs.declared.Checked.{Checked}
-use Rattle.cdf_check.specs.declared.Checked.TheVariants.{Accepted, Refused}
+use Rattle.cdf_refusal.specs.Numbers.{number_of}
+use Rattle.cdf_refusal.specs.declared.Fault.{Fault}
+
+-- The number of units of a right stream, or the first fault's number and offset.
+pub data Checked : Type 0 where
+  Accepted : ℕ → Checked
+  Refused : ℕ → ℕ → Checked
+
+-- What an answer of the code says.
+abbrev pub checked : Result ℕ Fault → Checked
+checked (Ok n) = Accepted n
+checked (Err f) = Refused (number_of f.refusal) f.offset
 
 -- `unfinished` is given a number that 01 does not have; no bytes reach it.
 unfoldable pub checked_by : ℕ → End → Checked

@@ -5,13 +5,8 @@ use Rattle.std.specs.Prelude.{ℕ, zero, suc, ◌+◌, ◌≤◌, ◌<◌, false
 use Rattle.cdf_unit_prefix.specs.Layout.{Layout, prefix_of}
 use Rattle.cdf_unit_table.specs.States.{opens, nothing, complete}
 use Rattle.cdf_unit_table.specs.Heights.{height, height_in}
-use Rattle.cdf_unit_judge.specs.Judge.{body_of, judge_of, body_by}
-use Rattle.cdf_unit_judge.specs.declared.Body.{Body}
-use Rattle.cdf_unit_judge.specs.declared.Body.TheVariants.{Action, Data, Whole}
-use Rattle.cdf_unit_judge.specs.declared.Judged.{Judged}
-use Rattle.cdf_unit_judge.specs.declared.Judged.TheVariants.{Fault, Found}
-use Rattle.cdf_check.specs.declared.Checked.{Checked}
-use Rattle.cdf_check.specs.declared.Checked.TheVariants.{Accepted, Refused}
+use Rattle.cdf_unit_judge.specs.Judge.{body_of, judge_of, body_by, Body, Action, Data, Whole, Judged, Fault, Found}
+use Rattle.cdf_check.specs.Answers.{Checked, Accepted, Refused}
 
 -- What is known of a unit that is to be checked, behind count units and `place` bytes: it is low enough, has a prefix, and sums stay
 -- numbers that a field can hold.

@@ -11,15 +11,14 @@
 
 ghost use Rattle.std.specs.Prelude.{◌≤◌, ◌<◌, length, IfOk};
 
-use cdf_check::Checked;
 use std::io::{self, Read};
 
-// The next byte of the input, or 0 at its end.
+// The next byte of the input, or 0 at its end: a zero byte ends it too, as it always did here, so this is no option.
 fn next_byte(input: &mut impl Read) -> io::Result<u8> {
     input.bytes().next().unwrap_or(Ok(0))
 }
 
-// What a hexadecimal digit stands for.
+// What a hexadecimal digit stands for. `to_digit` takes small letters too, which stand for 0 here.
 fn digit(c: u8) -> usize
     ensures { result < 16 }
 {
@@ -43,14 +42,10 @@ fn put_like(s: &mut [u8], n: usize, back: usize) -> usize
     requires { n ≤ length s.old }
     ensures { result ≤ length s.old }
 {
-    if n < back {
+    if n < back || n == s.len() {
         return n;
     }
-    if n == s.len() {
-        return n;
-    }
-    let from = n - back;
-    s[n] = s[from];
+    s[n] = s[n - back];
     n + 1
 }
 
@@ -114,15 +109,12 @@ fn copy_label(rt: &impl Print, input: &mut impl Read) -> io::Result<bool> {
     Ok(false)
 }
 
-fn write_answer(rt: &impl Print, number: usize, value: usize) -> io::Result<()> {
-    println!(rt; " {number} {value}")
-}
-
 fn check_stream(rt: &impl Print, s: &[u8]) -> io::Result<()> {
-    match cdf_check::check(s) {
-        Checked::Accepted(units) => write_answer(rt, 0, units),
-        Checked::Refused { number, offset } => write_answer(rt, number, offset),
-    }
+    let (number, value) = match cdf_check::check(s) {
+        Ok(units) => (0, units),
+        Err(fault) => (fault.refusal.number(), fault.offset),
+    };
+    println!(rt; " {number} {value}")
 }
 
 // Checks the stream of one line, and answers whether there was one.

@@ -1,9 +1,7 @@
 -- What is told where a start and nexts come to the first number that is not 0.
-use Prim.Native.Nat.{ℕ, ◌≤◌}
-use mathlib.Core.Path.{◌≡◌, refl, ap, ◌∙◌}
-use mathlib.Core.List.{List, [], ◌∷◌, reverse}
-use native.Mathlib.Omega.{arith}
-use lib.ListN.{length}
+use Rattle.std.proofs.Common.{ℕ, ◌≤◌, ◌≡◌, refl, ap, ◌∙◌, List, [], ◌∷◌, reverse, arith, length}
+use Rattle.std.specs.Prelude.{Some, None, ◌↔◌}
+use Rattle.cdf_unit_table.proofs.Bools.{clash}
 use Rattle.cdf_unit_prefix.specs.Layout.{Layout}
 use Rattle.cdf_unit_list.specs.Units.{End, fault, listing}
 use Rattle.cdf_unit_list.specs.Stack.{Step}
@@ -71,3 +69,7 @@ module _ (l : Layout) (s : List ℕ) where
 -- So many are left.
 pub closed_few : (count : ℕ) (top o1 o2 o3 : Open) (os : List Open) → open_units count top o1 o2 o3 ≡ os → length os ≤ 4 → count ≤ 4
 closed_few count top o1 o2 o3 os e few = omega (arith, ap length e, length_open count top o1 o2 o3)
+
+-- An answer that tells something is of a number other than 0.
+pub some_told : {A : Type 0} (x : A) (n : ℕ) → (n ≡ 0 → ⊥) → (Some x ≡ None) ↔ (n ≡ 0)
+some_told x n some = (λ e. clash cc, λ z. absurd (some z))

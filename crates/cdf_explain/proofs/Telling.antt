@@ -1,11 +1,7 @@
 -- What is told from the open units of the list, and from the stack that follows them.
-use Prim.Native.Nat.{ℕ, suc}
-use mathlib.Core.Path.{◌≡◌, refl, ap, sym, ◌∙◌}
-use mathlib.Core.Bool.{true}
-use mathlib.Core.List.{List, [], ◌∷◌, map, reverse, reverse_aux}
-use native.Mathlib.Omega.{arith}
-use borrow.Author.Tests.{ne_eqb}
-use lib.ListN.{length, length-map, length-reverse}
+use Rattle.std.proofs.Common.{ℕ, suc, ◌≡◌, refl, ap, sym, ◌∙◌, true, List, [], ◌∷◌, map, reverse, arith, ne_eqb, length}
+use Rattle.std.proofs.lemmas.List.{length-map, length-reverse}
+use mathlib.Core.List.{reverse_aux}
 use Rattle.cdf_unit_table.specs.States.{opens, unit_of}
 use Rattle.cdf_unit_list.specs.declared.Unit.{Unit}
 use Rattle.cdf_unit_list.specs.declared.Open.{Open}

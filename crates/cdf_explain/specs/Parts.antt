@@ -6,12 +6,17 @@ use Rattle.cdf_unit_table.specs.Tables.{those}
 use Rattle.cdf_unit_list.specs.declared.Open.{Open}
 use Rattle.cdf_reader_spec.specs.Slots.{no_open}
 use Rattle.cdf_unit_table.specs.Entries.{padded}
-use Rattle.cdf_explain.specs.declared.Explained.{Explained}
+use Rattle.cdf_explain.specs.Numbers.{ExplainedNumbers}
+use Rattle.cdf_explain.specs.declared.OpenUnit.{OpenUnit}
 use Rattle.cdf_explain.specs.declared.Choices.{Choices}
 
 -- The unit at a level of so many open ones, from 1.
 abbrev pub level : ℕ → ℕ → Open → Open → Open
 level k count top outer = cond (eqb count k) top (cond (ltb k count) outer no_open)
+
+-- An open unit as it is told.
+abbrev pub unit_told : Open → OpenUnit
+unit_told o = record { id = unit_of o.state; start = o.start }
 
 -- An id may stand in the innermost of so many units, which is in this state, or as a root where there is none.
 abbrev pub mays_at : ℕ → ℕ → ℕ → Bool
@@ -29,7 +34,7 @@ innermost [] = 0
 innermost (o ∷ os) = o.state
 
 -- The answer with these units open, the innermost first.
-unfoldable pub told_at : ℕ → ℕ → List Open → Explained
+unfoldable pub told_at : ℕ → ℕ → List Open → ExplainedNumbers
 told_at number offset os = record {
   number = number;
   offset = offset;

@@ -15,22 +15,24 @@ pub extern "C" fn cdf_explain(s: &[u8], answer: &mut [u64; 25]) -> u64
     ensures number { result ≡ (why_of (layout_for s.now) s.now).number }
     ensures answer { answer.new ≡ answer_of (why_of (layout_for s.now) s.now) }
 {
-    let told = explain(s);
-    let units = told.units;
-    let starts = told.starts;
-    let ids = told.ids;
+    let Some(told) = explain(s) else {
+        *answer = [0; 25];
+        return 0;
+    };
+    let [root, second, third, fourth] = told.units;
+    let ids = told.choices.ids;
     *answer = [
         told.offset as u64,
         told.depth as u64,
-        units[0] as u64,
-        starts[0] as u64,
-        units[1] as u64,
-        starts[1] as u64,
-        units[2] as u64,
-        starts[2] as u64,
-        units[3] as u64,
-        starts[3] as u64,
-        told.choices as u64,
+        root.id as u64,
+        root.start as u64,
+        second.id as u64,
+        second.start as u64,
+        third.id as u64,
+        third.start as u64,
+        fourth.id as u64,
+        fourth.start as u64,
+        told.choices.count as u64,
         ids[0] as u64,
         ids[1] as u64,
         ids[2] as u64,

@@ -1,27 +1,17 @@
 -- An id is told exactly if a unit of it would not get 7.
-use Prim.Native.Nat.{ℕ, zero, suc, ◌-◌, ◌≤◌, ◌<◌}
-use mathlib.Core.Path.{◌≡◌, refl, sym, ap, ◌∙◌}
-use mathlib.Core.Bool.{Bool, true, false, cond, not}
-use mathlib.Core.List.{List, [], ◌∷◌, ◌++◌, reverse, append-nil, reverse-append, reverse-reverse}
-use mathlib.Core.Logic.{◌↔◌}
-use native.Mathlib.Omega.{arith}
-use borrow.Author.Tests.{eqb-true, eqb-false, ltb-true}
-use lib.Dec.{eqb, ltb, leb, ltb→lt}
-use lib.ListN.{take, drop}
+use Rattle.std.proofs.Common.{ℕ, zero, suc, ◌-◌, ◌≤◌, ◌<◌, ◌≡◌, refl, sym, ap, ◌∙◌, Bool, true, false, cond, not, List, [], ◌∷◌, ◌++◌, reverse}
+use Rattle.std.proofs.Common.{append-nil, ◌↔◌, arith, eqb-true, ltb-true, eqb, ltb, leb, take, drop}
+use Rattle.std.proofs.lemmas.Bool.{eqb-false}
+use Rattle.std.proofs.lemmas.List.{reverse-append, reverse-reverse}
 use Rattle.cdf_unit_table.specs.Ids.{member, known, ids_end}
-use Rattle.cdf_unit_table.specs.States.{admit, rows, root_kind, admits}
+use Rattle.cdf_unit_table.specs.States.{admit, root_kind, admits}
 use Rattle.cdf_unit_table.specs.Tables.{those}
 use Rattle.cdf_unit_table.proofs.Bools.{both, clash}
-use Rattle.cdf_unit_table.proofs.Rows.{from_rows}
+use Rattle.cdf_unit_table.proofs.Rows.{admit_none}
 use Rattle.cdf_unit_table.proofs.Tables.{same_below}
 use Rattle.cdf_unit_prefix.specs.Layout.{Layout, prefix_of}
-use Rattle.cdf_unit_prefix.specs.Rules.{head_of}
-use Rattle.cdf_unit_prefix.specs.declared.Header.TheVariants.{Prefix}
-use Rattle.cdf_unit_judge.specs.Judge.{body_of, found_by, judge_head, judge_by, judge_of, judge_in}
-use Rattle.cdf_unit_judge.specs.declared.Body.{Body}
-use Rattle.cdf_unit_judge.specs.declared.Body.TheVariants.{Action, Data, Whole}
-use Rattle.cdf_unit_judge.specs.declared.Judged.{Judged}
-use Rattle.cdf_unit_judge.specs.declared.Judged.TheVariants.{Fault}
+use Rattle.cdf_unit_prefix.specs.Rules.{head_of, Prefix}
+use Rattle.cdf_unit_judge.specs.Judge.{body_of, found_by, judge_head, judge_by, judge_of, judge_in, Body, Action, Data, Whole, Judged, Fault}
 use Rattle.cdf_unit_judge.proofs.Placed.{headed}
 use Rattle.cdf_unit_list.specs.Units.{state_of, End, unfinished, ended, fault, listing}
 use Rattle.cdf_unit_list.specs.Check.{check_of}
@@ -49,12 +39,6 @@ those_rise f none (suc n) = go (f (suc n)) (those_rise f none n)
     go : (b : Bool) → Rising 1 (suc n) (those f (suc n)) → Rising 1 (suc (suc n)) (those f (suc n) ++ cond b (suc n ∷ []) [])
     go true r = further 1 (suc n) (suc n) (those f (suc n)) (omega arith) r
     go false r = rw (append-nil (those f (suc n))) (wider 1 (suc n) (suc (suc n)) (those f (suc n)) (omega arith) r)
-
--- 0 is no unit's id.
-pub admit_none : (state : ℕ) → admit state 0 ≡ 0
-unfolding admit
-admit_none state =
-    from_rows (λ n. n ≡ 0) (λ r. ltb 0 r.child) state 0 refl (λ r t d e. absurd (omega (arith, ltb→lt 0 r.child t))) rows tt
 
 pub ids_rise : (l : Layout) (s : List ℕ) → Rising 1 15 (why_of l s).ids
 unfolding why_of why_after admitted_by root_kind

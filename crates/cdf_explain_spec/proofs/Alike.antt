@@ -1,22 +1,15 @@
 -- A unit is judged alike where the bytes up to its own data's end are the same, and as many are left.
-use Prim.Native.Nat.{ℕ, zero, suc, ◌+◌, ◌-◌, ◌≤◌, ◌<◌}
-use mathlib.Core.Path.{◌≡◌, refl, sym, ap, ◌∙◌}
-use mathlib.Core.Bool.{Bool, true, not}
-use mathlib.Core.List.{List}
-use native.Mathlib.Omega.{arith}
-use lib.Dec.{ltb}
-use lib.ListN.{length, take, drop, get_or, set, length-take, length-drop, length-set}
-use lib.Seq.{get_or-take, take-take, get_or-set_same, take-set-le}
+use Rattle.std.proofs.Common.{ℕ, zero, suc, ◌+◌, ◌-◌, ◌≤◌, ◌<◌, ◌≡◌, refl, sym, ap, ◌∙◌, Bool, true, not, List, arith, ltb, length, take, drop}
+use Rattle.std.proofs.Common.{get_or, set, length-take, length-drop, length-set, get_or-take, take-take, get_or-set_same}
+use Rattle.std.proofs.lemmas.List.{take-set-le}
 use Rattle.cdf_unit_table.specs.Ids.{known}
 use Rattle.cdf_unit_table.proofs.Bools.{past, clash}
 use Rattle.cdf_unit_table.proofs.Parts.{drop-take, minus_plus}
 use Rattle.cdf_unit_prefix.specs.Layout.{Layout, prefix_of, number_at, marked, length_at, action_at, id_at, length_fits}
-use Rattle.cdf_unit_prefix.specs.Rules.{head_of}
-use Rattle.cdf_unit_prefix.specs.declared.Header.TheVariants.{Stop, Prefix}
+use Rattle.cdf_unit_prefix.specs.Rules.{head_of, Stop, Prefix}
 use Rattle.cdf_unit_data.specs.Claims.{Agree}
 use Rattle.cdf_unit_data.proofs.Fronts.{own_same}
-use Rattle.cdf_unit_judge.specs.Judge.{judge_of}
-use Rattle.cdf_unit_judge.specs.declared.Judged.TheVariants.{Found}
+use Rattle.cdf_unit_judge.specs.Judge.{judge_of, Found}
 use Rattle.cdf_unit_judge.proofs.Placed.{headed, placed, judged}
 
 -- Bytes that agree up to m.

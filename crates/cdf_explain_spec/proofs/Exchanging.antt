@@ -1,29 +1,16 @@
 -- With another id in the place of the refused unit's, the check comes to that point too, and gives 7 there exactly if the judge does.
-use Prim.Native.Nat.{ℕ, ◌+◌, ◌-◌, ◌≤◌}
-use mathlib.Core.Path.{◌≡◌, refl, sym, ◌∙◌}
-use mathlib.Core.Bool.{Bool, true, false, cond}
-use mathlib.Core.List.{List, [], ◌∷◌, reverse-reverse}
+use Rattle.std.proofs.Common.{ℕ, ◌+◌, ◌-◌, ◌≤◌, ◌≡◌, refl, sym, ◌∙◌, Bool, true, false, cond, List, [], ◌∷◌, ◌⊎◌, inl, inr, ◌↔◌, arith, le-leb}
+use Rattle.std.proofs.Common.{lt-ltb, eqb, take, drop, length-set}
+use Rattle.std.proofs.lemmas.List.{reverse-reverse, take-set-le}
 use mathlib.Core.Logic.Iff
-use mathlib.Core.Logic.{◌⊎◌, inl, inr, ◌↔◌}
-use native.Mathlib.Omega.{arith}
-use borrow.Author.Tests.{le-leb, lt-ltb}
-use lib.Dec.{eqb}
-use lib.ListN.{take, drop, length-set}
-use lib.Seq.{take-set-le}
 use Rattle.cdf_unit_table.specs.Ids.{member, known, ids_end}
 use Rattle.cdf_unit_table.specs.States.{admits}
 use Rattle.cdf_unit_table.proofs.Bools.{clash}
 use Rattle.cdf_unit_prefix.specs.Layout.{Layout, prefix_of}
-use Rattle.cdf_unit_prefix.specs.Rules.{head_of}
-use Rattle.cdf_unit_prefix.specs.declared.Header.{Header}
-use Rattle.cdf_unit_prefix.specs.declared.Header.TheVariants.{Stop, Prefix}
+use Rattle.cdf_unit_prefix.specs.Rules.{head_of, Head, Stop, Prefix}
 use Rattle.cdf_unit_data.specs.Claims.{Agree}
 use Rattle.cdf_unit_data.specs.Data.{name_bytes}
-use Rattle.cdf_unit_judge.specs.Judge.{body_of, found_by, judge_head, judge_by, judge_of, judge_in}
-use Rattle.cdf_unit_judge.specs.declared.Body.{Body}
-use Rattle.cdf_unit_judge.specs.declared.Body.TheVariants.{Action, Data, Whole}
-use Rattle.cdf_unit_judge.specs.declared.Judged.{Judged}
-use Rattle.cdf_unit_judge.specs.declared.Judged.TheVariants.{Fault, Found}
+use Rattle.cdf_unit_judge.specs.Judge.{body_of, found_by, judge_head, judge_by, judge_of, judge_in, Body, Action, Data, Whole, Judged, Fault, Found}
 use Rattle.cdf_unit_judge.proofs.Faults.{OfHeader, of_head}
 use Rattle.cdf_unit_judge.proofs.Placed.{headed}
 use Rattle.cdf_unit_list.specs.Units.{broken, unit_at, next}
@@ -43,7 +30,7 @@ passed : (l : Layout) (root : Bool) (state : ℕ) (t : List ℕ) (n k : ℕ) →
 unfolding judge_in judge_by judge_head
 passed l root state t n k e h = go (head_of l root t) refl (of_head l root t) e
   where
-    go : (x : Header) → head_of l root t ≡ x → OfHeader x → judge_head name_bytes l (admits root state) t x ≡ Fault n k →
+    go : (x : Head) → head_of l root t ≡ x → OfHeader x → judge_head name_bytes l (admits root state) t x ≡ Fault n k →
         (id : ℕ) × (action : ℕ) × (len : ℕ) × (head_of l root t ≡ Prefix id action len)
     go (Stop m) q few e = let z : m ≡ n = cc in absurd (omega arith)
     go (Prefix id action len) q few e = (id, action, len, q)
@@ -117,7 +104,7 @@ module _ (l : Layout) (root : Bool) (state : ℕ) (t : List ℕ) (n k : ℕ) (ot
   of_test true id action len after c e = cc
   of_test false id action len after c e = of_body id action len after c e
 
-  of_prefix : (h : Header) → judge_head name_bytes l (admits root state) t h ≡ Fault n k → k ≡ 0
+  of_prefix : (h : Head) → judge_head name_bytes l (admits root state) t h ≡ Fault n k → k ≡ 0
   unfolding judge_head
   of_prefix (Stop m) e = cc
   of_prefix (Prefix id action len) e =

@@ -1,12 +1,6 @@
 -- The units of a stack that fits, by their states.
-use Prim.Native.Nat.{ℕ, suc, ◌≤◌}
-use mathlib.Core.Path.{◌≡◌, refl, ap, ◌∙◌}
-use mathlib.Core.Bool.{Bool, true, false, not, cond, ◌&&◌, ◌||◌}
-use mathlib.Core.List.{List, [], ◌∷◌, map}
-use native.Mathlib.Omega.{arith}
-use borrow.Author.Tests.{leb-true, ltb-true, ne_eqb}
-use lib.Dec.{eqb, leb, ltb, ltb→lt}
-use lib.ListN.{length}
+use Rattle.std.proofs.Common.{ℕ, suc, ◌≤◌, ◌≡◌, refl, ap, ◌∙◌, Bool, true, false, not, cond, ◌&&◌, ◌||◌, List, [], ◌∷◌, map, arith, leb-true}
+use Rattle.std.proofs.Common.{ltb-true, ne_eqb, eqb, leb, ltb, ltb→lt, length}
 use Rattle.cdf_unit_table.specs.Ids.{ids_end}
 use Rattle.cdf_unit_table.specs.States.{opens, admit, unit_of, complete, states_end}
 use Rattle.cdf_unit_table.specs.Heights.{height_in, height}

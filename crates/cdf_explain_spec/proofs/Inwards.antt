@@ -1,9 +1,6 @@
 -- The open units lie inside one another, the root first.
-use Prim.Native.Nat.{ℕ}
-use mathlib.Core.Path.{◌≡◌}
-use mathlib.Core.Bool.{Bool, true, false, cond, ◌&&◌}
-use mathlib.Core.List.{List, [], ◌∷◌, ◌++◌, reverse, reverse_aux}
-use lib.Dec.{eqb, ltb}
+use Rattle.std.proofs.Common.{ℕ, ◌≡◌, Bool, true, false, cond, ◌&&◌, List, [], ◌∷◌, ◌++◌, reverse, eqb, ltb}
+use mathlib.Core.List.{reverse_aux}
 use Rattle.cdf_unit_table.specs.States.{opens, complete}
 use Rattle.cdf_unit_list.specs.Units.{after, parents_that, open_at, closing_at, state_of}
 use Rattle.cdf_unit_list.specs.declared.Unit.{Unit}

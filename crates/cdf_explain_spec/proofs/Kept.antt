@@ -1,11 +1,7 @@
 -- The units that are open where the next one would stand, of the listed units and of the stack that follows them.
-use Prim.Native.Nat.{ℕ, suc, ◌<◌}
-use mathlib.Core.Path.{◌≡◌, refl, ap, ◌∙◌}
-use mathlib.Core.Bool.{Bool, true, false, cond, ◌&&◌}
-use mathlib.Core.List.{List, [], ◌∷◌, ◌++◌, map, append_assoc}
-use native.Mathlib.Omega.{arith}
-use borrow.Author.Tests.{eq-eqb, ne_eqb, eqb-true, eqb-false, ltb-true, ltb-false, le-leb, lt-leb}
-use lib.Dec.{eqb, ltb, leb}
+use Rattle.std.proofs.Common.{ℕ, suc, ◌<◌, ◌≡◌, refl, ap, ◌∙◌, Bool, true, false, cond, ◌&&◌, List, [], ◌∷◌, ◌++◌, map, append_assoc, arith, eq-eqb}
+use Rattle.std.proofs.Common.{ne_eqb, eqb-true, ltb-true, ltb-false, le-leb, eqb, ltb, leb}
+use Rattle.std.proofs.lemmas.Bool.{eqb-false, lt-leb}
 use Rattle.cdf_unit_table.specs.States.{opens, complete}
 use Rattle.cdf_unit_table.proofs.Bools.{both}
 use Rattle.cdf_unit_list.specs.Units.{after, parents_that, open_at, closing_at, state_of}

@@ -1,20 +1,11 @@
 -- Where the unit list of refused bytes stops, and why.
-use Prim.Native.Nat.{ℕ, ◌-◌, ◌≤◌}
-use mathlib.Core.Path.{◌≡◌, refl, sym, ap, ◌∙◌}
-use mathlib.Core.Bool.{Bool, true, false}
-use mathlib.Core.List.{List, [], ◌∷◌, ◌++◌, reverse}
-use mathlib.Core.Logic.{◌⊎◌, inl, inr}
-use native.Mathlib.Omega.{arith}
-use lib.ListN.{take, drop}
+use Rattle.std.proofs.Common.{ℕ, ◌-◌, ◌≤◌, ◌≡◌, refl, sym, ap, ◌∙◌, Bool, true, false, List, [], ◌∷◌, ◌++◌, reverse, ◌⊎◌, inl, inr, arith, take, drop}
 use Rattle.cdf_unit_table.specs.States.{complete}
 use Rattle.cdf_unit_table.proofs.Bools.{clash}
 use Rattle.cdf_unit_prefix.specs.Layout.{Layout}
-use Rattle.cdf_unit_judge.specs.Judge.{judge_of}
-use Rattle.cdf_unit_judge.specs.declared.Judged.{Judged}
-use Rattle.cdf_unit_judge.specs.declared.Judged.TheVariants.{Fault, Found}
+use Rattle.cdf_unit_judge.specs.Judge.{judge_of, Judged, Fault, Found}
 use Rattle.cdf_unit_judge.proofs.Faults.{told as fault-told}
-use Rattle.cdf_unit_list.specs.Units.{after, open_at, closing_at, state_of, Next, whole, broken, unit_at, closed, within, or_else, next_at}
-use Rattle.cdf_unit_list.specs.Units.{End, fault, listing}
+use Rattle.cdf_unit_list.specs.Units.{after, open_at, closing_at, state_of, Next, whole, broken, unit_at, closed, within, or_else, next_at, End, fault, listing}
 use Rattle.cdf_unit_list.specs.Check.{answer_of, answer, check_of}
 use Rattle.cdf_unit_list.specs.Stack.{Step, refused}
 use Rattle.cdf_unit_list.specs.declared.Unit.{Unit}

@@ -1,17 +1,10 @@
 -- Where the unit list comes to units, from there it goes on to its end; bytes that agree up to there come to them too.
-use Prim.Native.Nat.{ℕ, ◌+◌, ◌-◌, ◌≤◌}
-use mathlib.Core.Path.{◌≡◌, refl, sym, ap, ◌∙◌}
-use mathlib.Core.Bool.{true}
-use mathlib.Core.List.{List, [], ◌∷◌, reverse, reverse_aux}
-use mathlib.Core.Logic.{◌⊎◌, inl, inr, ◌↔◌}
-use native.Mathlib.Omega.{arith}
-use lib.ListN.{length}
+use Rattle.std.proofs.Common.{ℕ, ◌+◌, ◌-◌, ◌≤◌, ◌≡◌, refl, sym, ap, ◌∙◌, true, List, [], ◌∷◌, reverse, ◌⊎◌, inl, inr, ◌↔◌, arith, length}
+use mathlib.Core.List.{reverse_aux}
 use Rattle.cdf_unit_table.proofs.Bools.{clash}
 use Rattle.cdf_unit_prefix.specs.Layout.{Layout}
 use Rattle.cdf_unit_data.specs.Claims.{Agree}
-use Rattle.cdf_unit_judge.specs.Judge.{judge_of}
-use Rattle.cdf_unit_judge.specs.declared.Judged.{Judged}
-use Rattle.cdf_unit_judge.specs.declared.Judged.TheVariants.{Fault, Found}
+use Rattle.cdf_unit_judge.specs.Judge.{judge_of, Judged, Fault, Found}
 use Rattle.cdf_unit_list.specs.Units.{after, Next, broken, listed, unit_at, End, unfinished, ended, fault, next, listing}
 use Rattle.cdf_unit_list.specs.Check.{Verdict, answer_of, answer, check_of}
 use Rattle.cdf_unit_list.specs.Stack.{Step, refused, found, step}

@@ -1,5 +1,5 @@
 -- The claims of this crate, proved.
-use mathlib.Core.Path.{◌≡◌, refl}
+use Rattle.std.proofs.Common.{◌≡◌, refl}
 use Rattle.cdf_explain_spec.specs.Samples.{samples_found, samples_due}
 use Rattle.cdf_explain_spec.specs.Claims.{Claims}
 use Rattle.cdf_explain_spec.proofs.Told.{accepted, refused_same, listed_open, inside, four, refused_start, ten}

@@ -1,17 +1,11 @@
 -- What the tool tells, by how the unit list ends.
-use Prim.Native.Nat.{ℕ, ◌-◌, ◌≤◌}
-use mathlib.Core.Path.{◌≡◌, refl, ap, sym, ◌∙◌}
-use mathlib.Core.Bool.{Bool, true, false}
-use mathlib.Core.List.{List, [], ◌∷◌, map, reverse}
-use native.Mathlib.Omega.{arith}
-use lib.ListN.{length, take, drop, length-map, length-reverse}
+use Rattle.std.proofs.Common.{ℕ, ◌-◌, ◌≤◌, ◌≡◌, refl, ap, sym, ◌∙◌, Bool, true, false, List, [], ◌∷◌, map, reverse, arith, length, take, drop}
+use Rattle.std.proofs.lemmas.List.{length-map, length-reverse}
 use Rattle.cdf_unit_table.specs.Ids.{ids_end}
 use Rattle.cdf_unit_table.specs.States.{root_kind}
 use Rattle.cdf_unit_table.specs.Tables.{those}
 use Rattle.cdf_unit_prefix.specs.Layout.{Layout}
-use Rattle.cdf_unit_judge.specs.Judge.{judge_of}
-use Rattle.cdf_unit_judge.specs.declared.Judged.{Judged}
-use Rattle.cdf_unit_judge.specs.declared.Judged.TheVariants.{Fault, Found}
+use Rattle.cdf_unit_judge.specs.Judge.{judge_of, Judged, Fault, Found}
 use Rattle.cdf_unit_judge.proofs.Faults.{told as fault-told}
 use Rattle.cdf_unit_table.proofs.Bools.{both, clash}
 use Rattle.cdf_unit_list.specs.Units.{after, End, unfinished, ended, fault, listing, state_of}

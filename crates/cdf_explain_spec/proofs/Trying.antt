@@ -1,22 +1,15 @@
 -- What comes next after units listed so far: it is settled by them, or by how one part of the bytes is judged.
-use Prim.Native.Nat.{ℕ, ◌+◌, ◌-◌, ◌≤◌, ◌<◌}
-use mathlib.Core.Path.{◌≡◌, refl, sym, ap, ◌∙◌}
-use mathlib.Core.Bool.{Bool, true, false, not}
-use mathlib.Core.List.{List, [], ◌∷◌}
-use mathlib.Core.Logic.{◌⊎◌, inl, inr}
-use native.Mathlib.Omega.{arith}
-use lib.Dec.{eqb}
-use lib.ListN.{length, take, drop, set, length-take}
-use lib.Seq.{take-set-lt, drop-set-add}
+use Rattle.std.proofs.Common.{ℕ, ◌+◌, ◌-◌, ◌≤◌, ◌<◌, ◌≡◌, refl, sym, ap, ◌∙◌, Bool, true, false, not, List, [], ◌∷◌, ◌⊎◌, inl, inr, arith, eqb}
+use Rattle.std.proofs.Common.{length, take, drop, set, length-take}
+use Rattle.std.proofs.lemmas.List.{drop-set-add}
+use lib.Seq.{take-set-lt}
 use Rattle.cdf_unit_table.specs.Ids.{ids_end}
 use Rattle.cdf_unit_table.specs.States.{admit, root_kind, admits}
 use Rattle.cdf_unit_table.specs.Tables.{those}
 use Rattle.cdf_unit_table.proofs.Bools.{clash}
 use Rattle.cdf_unit_prefix.specs.Layout.{Layout}
 use Rattle.cdf_unit_data.specs.Claims.{Agree}
-use Rattle.cdf_unit_judge.specs.Judge.{judge_of}
-use Rattle.cdf_unit_judge.specs.declared.Judged.{Judged}
-use Rattle.cdf_unit_judge.specs.declared.Judged.TheVariants.{Fault, Found}
+use Rattle.cdf_unit_judge.specs.Judge.{judge_of, Judged, Fault, Found}
 use Rattle.cdf_unit_judge.proofs.Placed.{placed}
 use Rattle.cdf_unit_list.specs.Units.{after, open_at, closing_at, state_of, Next, whole, broken, listed, unit_at, closed, within, or_else, next_at, next}
 use Rattle.cdf_unit_list.specs.declared.Unit.{Unit}

@@ -3,10 +3,8 @@ use Rattle.std.specs.Prelude.{ℕ, suc, ◌+◌, ◌-◌, ◌≤◌, ◌<◌, �
 use Rattle.cdf_unit_table.specs.Ids.{member}
 use Rattle.cdf_unit_table.specs.States.{opens}
 use Rattle.cdf_unit_prefix.specs.Layout.{Layout, prefix_of}
-use Rattle.cdf_unit_prefix.specs.Rules.{head_of}
-use Rattle.cdf_unit_prefix.specs.declared.Header.TheVariants.{Prefix}
-use Rattle.cdf_unit_judge.specs.Judge.{judge_of}
-use Rattle.cdf_unit_judge.specs.declared.Judged.TheVariants.{Fault}
+use Rattle.cdf_unit_prefix.specs.Rules.{head_of, Prefix}
+use Rattle.cdf_unit_judge.specs.Judge.{judge_of, Fault}
 use Rattle.cdf_unit_list.specs.Units.{after, state_of, listing}
 use Rattle.cdf_unit_list.specs.Check.{check_of}
 use Rattle.cdf_unit_list.specs.declared.Unit.{Unit}

@@ -1,11 +1,8 @@
 -- Trees conform to the published grammar exactly if they fit the rules of one unit.
-use Prim.Native.Nat.{ℕ}
-use mathlib.Core.Path.{◌≡◌, refl, sym, subst}
-use mathlib.Core.Bool.{Bool, true, false, cond, or-false}
-use mathlib.Core.List.{List, [], ◌∷◌, ◌++◌, append-nil, cons≢nil}
-use mathlib.Core.Logic.{◌↔◌, inl, inr}
-use lib.Dec.{T, eqb, eqb→eq}
-use lib.ListN.{length, take}
+use Rattle.std.proofs.Common.{ℕ, ◌≡◌, refl, sym, subst, Bool, true, false, cond, List, [], ◌∷◌, ◌++◌, append-nil, ◌↔◌, inl, inr, T, eqb, eqb→eq}
+use Rattle.std.proofs.Common.{length, take}
+use mathlib.Core.Bool.{or-false}
+use mathlib.Core.List.{cons≢nil}
 use lib.Seq.{take-append_seam, take-length}
 use Rattle.cdf_unit_prefix.specs.Layout.{Layout}
 use Rattle.cdf_unit_table.specs.Ids.{member, action_allowed, stream, er_group, file_group}

@@ -1,22 +1,16 @@
 -- Bytes that are stepped over to the end are the encoding of a tree that fits.
-use mathlib.Core.Path.{◌≡◌, refl, sym, ap, ◌∙◌}
-use mathlib.Core.Bool.{Bool, true, false}
-use mathlib.Core.List.{List, [], ◌∷◌, ◌++◌, append-nil}
-use Prim.Native.Nat.{ℕ, zero, suc, ◌+◌, ◌-◌, ◌≤◌, ◌<◌}
-use native.Mathlib.Omega.{arith}
+use Rattle.std.proofs.Common.{◌≡◌, refl, sym, ap, ◌∙◌, Bool, true, false, List, [], ◌∷◌, ◌++◌, append-nil, ℕ, zero, suc, ◌+◌, ◌-◌, ◌≤◌, ◌<◌, arith}
+use Rattle.std.proofs.Common.{length, take, drop, length-take, take-append-drop, take-take, drop-drop}
 use native.Mathlib.Decide.{dec_lt}
-use lib.ListN.{length, take, drop, length-take, take-append-drop}
-use lib.Seq.{take-take, take-length, drop-drop}
+use lib.Seq.{take-length}
 use Rattle.cdf_unit_prefix.specs.Layout.{Layout, prefix_of}
 use Rattle.cdf_unit_table.specs.States.{opens, nothing, admit, complete}
-use Rattle.cdf_unit_judge.specs.Judge.{judge_of}
+use Rattle.cdf_unit_judge.specs.Judge.{judge_of, Judged, Fault, Found}
 use Rattle.cdf_unit_list.specs.Units.{after, ended, Listing}
 use Rattle.cdf_unit_list.specs.Stack.{opened, with_state, step}
 use Rattle.cdf_unit_list.specs.Steps.{steps_from}
 use Rattle.cdf_unit_list.specs.declared.Unit.{Unit}
 use Rattle.cdf_unit_list.specs.declared.Open.{Open}
-use Rattle.cdf_unit_judge.specs.declared.Judged.{Judged}
-use Rattle.cdf_unit_judge.specs.declared.Judged.TheVariants.{Fault, Found}
 use Rattle.cdf_unit_judge.proofs.Placed.{Placed, placed}
 use Rattle.cdf_unit_list.proofs.Entering.{unit_from}
 use Rattle.cdf_grammar.specs.Trees.{Forest, none, tree, ids}
@@ -27,8 +21,7 @@ use Rattle.cdf_grammar.proofs.Parts.{part_left, part_bytes}
 use Rattle.cdf_grammar.proofs.Written.{text_of, UnitIs, unit_written}
 use Rattle.cdf_unit_table.proofs.Bools.{clash}
 use Rattle.cdf_unit_table.proofs.Rows.{admits_nested}
-use Rattle.cdf_unit_list.proofs.Stepping.{fresh, step_inside, step_closes, steps_on}
-use Rattle.cdf_unit_list.proofs.Stepping.{faults, enters, opened_parent, refused_never, spent_never}
+use Rattle.cdf_unit_list.proofs.Stepping.{fresh, step_inside, step_closes, steps_on, faults, enters, opened_parent, refused_never, spent_never}
 use Rattle.cdf_grammar.proofs.Nesting.{leaves, nest_unit}
 use Rattle.cdf_grammar.proofs.Built.{encode_none, encode_tree}
 

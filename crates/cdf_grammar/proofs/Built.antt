@@ -1,15 +1,9 @@
 -- The judge passes an encoded unit that keeps the rules.
-use mathlib.Core.Path.{◌≡◌, refl, sym}
-use mathlib.Core.Bool.{Bool, true}
-use mathlib.Core.List.{List, [], ◌++◌, append_assoc, append-nil}
-use Prim.Native.Nat.{ℕ, ◌+◌, ◌-◌, ◌^◌, ◌≤◌, ◌<◌}
-use native.Mathlib.Omega.{arith}
-use lib.ListN.{length, length-append}
-use lib.Seq.{take_at, drop_at}
+use Rattle.std.proofs.Common.{◌≡◌, refl, sym, Bool, true, List, [], ◌++◌, append_assoc, append-nil, ℕ, ◌+◌, ◌-◌, ◌^◌, ◌≤◌, ◌<◌, arith, length}
+use Rattle.std.proofs.Common.{length-append, take_at, drop_at}
 use Rattle.cdf_unit_prefix.specs.Layout.{Layout, prefix_of}
 use Rattle.cdf_unit_table.specs.States.{admits}
-use Rattle.cdf_unit_judge.specs.Judge.{judge_of}
-use Rattle.cdf_unit_judge.specs.declared.Judged.TheVariants.{Found}
+use Rattle.cdf_unit_judge.specs.Judge.{judge_of, Found}
 use Rattle.cdf_unit_judge.proofs.Placed.{judged}
 use Rattle.cdf_unit_data.proofs.Taken.{taken_fits}
 use Rattle.cdf_grammar.specs.Trees.{Forest, none, tree}

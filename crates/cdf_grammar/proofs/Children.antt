@@ -1,13 +1,8 @@
 -- One or more units that a group takes as its first make a group: it admits the same after each, and is then complete.
-use Prim.Native.Nat.{ℕ, suc, ◌^◌, ◌≤◌, ◌<◌}
-use mathlib.Core.Path.{◌≡◌, refl, sym, ap, ◌∙◌}
-use mathlib.Core.Bool.{true, false, cond, false≢true}
-use mathlib.Core.List.{List, [], ◌∷◌, ◌++◌, map, flatten, append-nil, cons≢nil}
-use mathlib.Core.Logic.{◌↔◌, inl, inr}
-use native.Mathlib.Omega.{arith}
-use borrow.Author.Tests.{ne_eqb}
-use lib.Dec.{eqb}
-use lib.ListN.{length, take}
+use Rattle.std.proofs.Common.{ℕ, suc, ◌^◌, ◌≤◌, ◌<◌, ◌≡◌, refl, sym, ap, ◌∙◌, true, false, cond, List, [], ◌∷◌, ◌++◌, map, append-nil, ◌↔◌, inl, inr}
+use Rattle.std.proofs.Common.{arith, ne_eqb, eqb, length, take}
+use Rattle.std.proofs.lemmas.Bool.{false≢true}
+use mathlib.Core.List.{flatten, cons≢nil}
 use lib.Seq.{take-length}
 use Rattle.cdf_unit_prefix.specs.Layout.{Layout, length_at}
 use Rattle.cdf_unit_table.specs.Ids.{er_group, file_group, ids_end}

@@ -1,13 +1,5 @@
 -- From every state some forest completes the unit: one table of forests, by the states, and one test over all of them.
-use Prim.Native.Nat.{ℕ, ◌≤◌, ◌<◌}
-use mathlib.Core.Path.{◌≡◌, refl}
-use mathlib.Core.Bool.{Bool, true, ◌||◌}
-use mathlib.Core.List.{List, [], ◌∷◌}
-use mathlib.Core.Logic.{inl}
-use native.Mathlib.Omega.{arith}
-use borrow.Author.Tests.{ne_eqb}
-use lib.Dec.{eqb}
-use lib.ListN.{get_or}
+use Rattle.std.proofs.Common.{ℕ, ◌≤◌, ◌<◌, ◌≡◌, refl, Bool, true, ◌||◌, List, [], ◌∷◌, inl, arith, ne_eqb, eqb, get_or}
 use Rattle.cdf_unit_table.specs.Ids.{call, template, temporary_key, relation_key, line}
 use Rattle.cdf_unit_table.specs.States.{states_end, complete, admit}
 use Rattle.cdf_unit_table.proofs.Tests.{is_true, below_at}

@@ -1,15 +1,11 @@
 -- Trees in the words of the rules of one unit: what the published grammar asks, as the rows and the own data's rules ask it.
-use Prim.Native.Nat.{ℕ}
-use mathlib.Core.Path.{◌≡◌, refl}
-use mathlib.Core.Bool.{true, false}
-use mathlib.Core.List.{List, [], ◌∷◌, ◌++◌}
-use lib.ListN.{length}
+use Rattle.std.proofs.Common.{ℕ, ◌≡◌, refl, true, false, List, [], ◌∷◌, ◌++◌, length}
 use Rattle.cdf_unit_prefix.specs.Layout.{Layout}
 use Rattle.cdf_unit_table.specs.Ids.{known, action_allowed}
 use Rattle.cdf_unit_table.specs.States.{opens, nothing, admit, complete}
 use Rattle.cdf_unit_table.proofs.Bools.{clash}
 use Rattle.cdf_unit_data.specs.Data.{own_data}
-use Rattle.cdf_unit_data.specs.declared.Own.TheVariants.{Taken}
+use Rattle.std.specs.Prelude.{Ok}
 use Rattle.cdf_grammar.specs.Trees.{Forest, none, tree, ids}
 use Rattle.cdf_grammar.specs.Published.{production_of}
 use Rattle.cdf_grammar.specs.Encoding.{encode, own_length}
@@ -37,7 +33,7 @@ own_of id text = own_length (production_of id).text text
 pub record Passes (l : Layout) (id action : ℕ) (text : List ℕ) (inner : Forest) : Type 0 where
   pub recognised : known id ≡ true
   pub allowed : action_allowed id action ≡ true
-  pub taken : own_data id (text ++ encode l inner) ≡ Taken (own_of id text)
+  pub taken : own_data id (text ++ encode l inner) ≡ Ok (own_of id text)
   pub exact : opens id ≡ true → own_of id text ≡ length text
   pub full : opens id ≡ true → complete (through (nothing id) (ids inner)) ≡ true
   pub leaf : opens id ≡ false → inner ≡ none

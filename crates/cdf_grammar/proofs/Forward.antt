@@ -1,11 +1,8 @@
 -- Stepping over the encoding of trees that fit lists their units in order.
-use mathlib.Core.Path.{◌≡◌, refl, ap, ap₂, ◌∙◌}
-use mathlib.Core.Bool.{Bool, true, false}
-use mathlib.Core.List.{List, [], ◌∷◌, ◌++◌, append_assoc, append-nil, reverse_aux, reverse_aux-append, reverse_aux-reverse_aux-nil}
-use Prim.Native.Nat.{ℕ, suc, ◌+◌, ◌-◌, ◌^◌, ◌≤◌, ◌<◌}
-use native.Mathlib.Omega.{arith}
-use lib.ListN.{length, take, drop, length-append}
-use lib.Seq.{take-append-add, drop_at, drop-drop}
+use Rattle.std.proofs.Common.{◌≡◌, refl, ap, ap₂, ◌∙◌, Bool, true, false, List, [], ◌∷◌, ◌++◌, append_assoc, append-nil, ℕ, suc, ◌+◌, ◌-◌, ◌^◌, ◌≤◌}
+use Rattle.std.proofs.Common.{◌<◌, arith, length, take, drop, length-append, drop_at, drop-drop}
+use mathlib.Core.List.{reverse_aux, reverse_aux-append, reverse_aux-reverse_aux-nil}
+use lib.Seq.{take-append-add}
 use Rattle.cdf_unit_prefix.specs.Layout.{Layout, prefix_of}
 use Rattle.cdf_unit_table.specs.States.{opens, nothing, admit}
 use Rattle.cdf_unit_list.specs.Units.{after, ended}
@@ -13,7 +10,7 @@ use Rattle.cdf_unit_list.specs.Stack.{opened, entered, with_state, step}
 use Rattle.cdf_unit_list.specs.Steps.{steps_from}
 use Rattle.cdf_unit_list.specs.declared.Unit.{Unit}
 use Rattle.cdf_unit_list.specs.declared.Open.{Open}
-use Rattle.cdf_unit_judge.specs.declared.Judged.TheVariants.{Found}
+use Rattle.cdf_unit_judge.specs.Judge.{Found}
 use Rattle.cdf_unit_list.proofs.Entering.{unit_from}
 use Rattle.cdf_grammar.specs.Trees.{Forest, none, tree, ids, units}
 use Rattle.cdf_grammar.specs.Encoding.{unit_bytes, encode, list}
@@ -22,8 +19,7 @@ use Rattle.cdf_grammar.proofs.Prefixes.{length_prefix}
 use Rattle.cdf_grammar.proofs.Built.{encode_tree, size_of, unit_is, length_unit, length_tree, unit_judged}
 use Rattle.cdf_unit_table.proofs.Bools.{clash}
 use Rattle.cdf_unit_table.proofs.Rows.{admits_nested}
-use Rattle.cdf_unit_list.proofs.Stepping.{fresh, step_inside, step_closes, steps_end, steps_on}
-use Rattle.cdf_unit_list.proofs.Stepping.{enters, opened_parent, opened_leaf}
+use Rattle.cdf_unit_list.proofs.Stepping.{fresh, step_inside, step_closes, steps_end, steps_on, enters, opened_parent, opened_leaf}
 
 -- Where the units nested in a unit with this text stand.
 abbrev pub inner_at : Layout → ℕ → List ℕ → ℕ

@@ -1,12 +1,8 @@
 -- The productions and the table of kinds say the same of every id.
-use Prim.Native.Nat.{ℕ, ◌≤◌}
-use mathlib.Core.Path.{◌≡◌, refl, ap}
-use mathlib.Core.Bool.{Bool, true, false, not, ◌||◌, cond, false≢true, or-true}
-use mathlib.Core.List.{List, [], ◌∷◌}
-use mathlib.Core.Logic.{◌↔◌, ⊎_elim, inl, inr}
-use native.Mathlib.Omega.{arith}
-use borrow.Author.Tests.{le-leb, le-ltb, eq-eqb, eqb-true}
-use lib.Dec.{eqb}
+use Rattle.std.proofs.Common.{ℕ, ◌≤◌, ◌≡◌, refl, ap, Bool, true, false, not, ◌||◌, cond, List, [], ◌∷◌, ◌↔◌, ⊎_elim, inl, inr, arith, le-leb, le-ltb}
+use Rattle.std.proofs.Common.{eq-eqb, eqb-true, eqb}
+use Rattle.std.proofs.lemmas.Bool.{false≢true}
+use mathlib.Core.Bool.{or-true}
 use lib.ListN.{get_or-eq_default}
 use Rattle.cdf_unit_table.specs.Ids.{member, Rule, blank, name, name_value, value, numbers, kinds, kind_of, known, action_allowed, ids_end}
 use Rattle.cdf_unit_table.specs.States.{opens}

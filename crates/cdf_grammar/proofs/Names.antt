@@ -1,17 +1,11 @@
 -- Names: what `name_of` takes from the front of bytes is exactly a name.
-use Prim.Native.Nat.{ℕ, suc, ◌+◌, ◌≤◌}
-use mathlib.Core.Path.{◌≡◌, refl, sym, ap}
-use mathlib.Core.Bool.{Bool, true, false, ◌&&◌, cond, false≢true, or-true, ◌||◌}
-use mathlib.Core.List.{List, [], ◌∷◌, ◌++◌, nil≢cons}
-use mathlib.Core.Logic.{◌↔◌, ⊎_elim, inl, inr, ◌⊎◌}
-use native.Mathlib.Omega.{arith}
-use borrow.Author.Tests.{le-leb, leb-true, eq-eqb, eqb-true}
-use lib.Dec.{leb, eqb}
-use lib.ListN.{length, take, get_or, length-append}
-use lib.Seq.{take_at, length-take-le}
-use Rattle.cdf_unit_data.specs.Data.{letter, name_byte, name_run, name_front, spelled, name_of, front_by, name_by, run_by}
-use Rattle.cdf_unit_data.specs.declared.Own.{Own}
-use Rattle.cdf_unit_data.specs.declared.Own.TheVariants.{Taken, Broken}
+use Rattle.std.proofs.Common.{ℕ, suc, ◌+◌, ◌≤◌, ◌≡◌, refl, sym, ap, Bool, true, false, ◌&&◌, cond, ◌||◌, List, [], ◌∷◌, ◌++◌, ◌↔◌, ⊎_elim, inl, inr}
+use Rattle.std.proofs.Common.{◌⊎◌, arith, le-leb, leb-true, eq-eqb, eqb-true, leb, eqb, length, take, get_or, length-append, take_at, length-take-le}
+use Rattle.std.proofs.lemmas.Bool.{false≢true}
+use mathlib.Core.Bool.{or-true}
+use mathlib.Core.List.{nil≢cons}
+use Rattle.cdf_unit_data.specs.Data.{letter, name_byte, name_run, name_front, spelled, name_of, front_by, name_by, run_by, Own}
+use Rattle.std.specs.Prelude.{Ok, Err}
 use Rattle.cdf_unit_table.proofs.Bools.{both, either, clash}
 use Rattle.cdf_grammar.specs.Published.{Each, Letter, NameByte, Name}
 
@@ -76,29 +70,29 @@ counted_name count (b ∷ s) c = go (letter b) refl c.front
     go false e f = absurd (omega arith)
 
 -- What takes bytes has passed the test.
-pub taken : (b : Bool) (x : Own) (j k : ℕ) → cond b x (Broken j) ≡ Taken k → (b ≡ true) × (x ≡ Taken k)
+pub taken : (b : Bool) (x : Own) (j k : ℕ) → cond b x (Err j) ≡ Ok k → (b ≡ true) × (x ≡ Ok k)
 taken true x j k e = (refl, e)
 taken false x j k e = clash cc
 
-pub name_taken : (text inner : List ℕ) → Name text → name_of (text ++ inner) ≡ Taken (length text)
+pub name_taken : (text inner : List ℕ) → Name text → name_of (text ++ inner) ≡ Ok (length text)
 unfolding name_by spelled
 name_taken [] inner n = absurd (nil≢cons n.spelled)
 name_taken (count ∷ s) inner n =
     let c = name_counted count s n in
     let fits : count ≤ length (s ++ inner) = omega (arith, length-append s inner, c.size) in
     rw (le-leb 1 count c.least, le-leb count 32 c.most, le-leb count (length (s ++ inner)) fits)
-    (rw (take_at s inner count c.size, c.front, eq-eqb count count refl) (ap Taken (omega arith)))
+    (rw (take_at s inner count c.size, c.front, eq-eqb count count refl) (ap Ok (omega arith)))
 
 pub name_size : (text rest : List ℕ) → Name text → suc (get_or (text ++ rest) 0 0) ≡ length text
 name_size [] rest n = absurd (nil≢cons n.spelled)
 name_size (count ∷ s) rest n = ap suc (sym (name_counted count s n).size)
 
-pub taken_name : (s : List ℕ) (k : ℕ) → name_of s ≡ Taken k → Name (take k s) × (length (take k s) ≡ k)
+pub taken_name : (s : List ℕ) (k : ℕ) → name_of s ≡ Ok k → Name (take k s) × (length (take k s) ≡ k)
 unfolding name_by spelled
 taken_name [] k e = clash cc
 taken_name (count ∷ s) k e =
     let w = taken (leb 1 count && (leb count 32 && leb count (length s))) _ 0 k e in
-    let v = taken (eqb (name_front (take count s)) count) (Taken (1 + count)) (1 + name_front (take count s)) k w.1 in
+    let v = taken (eqb (name_front (take count s)) count) (Ok (1 + count)) (1 + name_front (take count s)) k w.1 in
     let few = both (leb 1 count) _ w.0 in
     let bounds = both (leb count 32) _ few.1 in
     let counted : Counted count (take count s) =

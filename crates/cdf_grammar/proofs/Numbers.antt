@@ -1,11 +1,7 @@
 -- Numbers as bytes: what was written is read, and what is read was written.
-use mathlib.Core.Path.{◌≡◌, refl}
-use mathlib.Core.List.{List, ◌∷◌, ◌++◌, append_assoc}
-use Prim.Native.Nat.{ℕ, zero, suc, ◌+◌, ◌*◌, ◌/◌, ◌%◌, ◌^◌, ◌≤◌, ◌<◌}
-use native.Mathlib.Omega.{arith}
-use native.Mathlib.Nat.{pow-suc}
-use lib.ListN.{length, take, drop, get_or, length-append, length-drop}
-use lib.Seq.{take-suc, get_or-drop, get_or-append-add, get_or_at}
+use Rattle.std.proofs.Common.{◌≡◌, refl, List, ◌∷◌, ◌++◌, append_assoc, ℕ, zero, suc, ◌+◌, ◌*◌, ◌/◌, ◌%◌, ◌^◌, ◌≤◌, ◌<◌, arith, pow-suc, length, take}
+use Rattle.std.proofs.Common.{drop, get_or, length-append, length-drop, take-suc, get_or-drop, get_or-append-add}
+use Rattle.std.proofs.lemmas.List.{get_or_at}
 use Rattle.cdf_unit_prefix.specs.Layout.{number_at}
 use Rattle.cdf_grammar.specs.Encoding.{bytes_of, Bytes}
 use Rattle.cdf_grammar.proofs.Parts.{byte_at}

@@ -1,8 +1,5 @@
 -- Trees of the published grammar have keys of one kind in each template and each entity key: by the productions alone.
-use Prim.Native.Nat.{ℕ}
-use mathlib.Core.Path.{◌≡◌, refl, ap}
-use mathlib.Core.List.{List, [], ◌∷◌, ◌++◌, append-nil}
-use mathlib.Core.Logic.{inl, inr}
+use Rattle.std.proofs.Common.{ℕ, ◌≡◌, refl, ap, List, [], ◌∷◌, ◌++◌, append-nil, inl, inr}
 use Rattle.cdf_unit_table.specs.Ids.{template, temporary_key, template_key, field, entity_key}
 use Rattle.cdf_unit_table.proofs.Bools.{clash}
 use Rattle.cdf_grammar.specs.Content.{one, Spells, Pieces, end, piece}

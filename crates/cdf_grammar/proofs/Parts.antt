@@ -1,10 +1,6 @@
 -- Bytes and parts of them: each byte is below 256, also in a part, and what is left of a part is a part.
-use mathlib.Core.Path.{◌≡◌}
-use mathlib.Core.List.{List, [], ◌∷◌, ◌++◌}
-use Prim.Native.Nat.{ℕ, zero, suc, ◌+◌, ◌-◌, ◌<◌}
-use native.Mathlib.Omega.{arith}
-use lib.ListN.{take, drop, get_or}
-use lib.Seq.{take-nil, drop-drop}
+use Rattle.std.proofs.Common.{◌≡◌, List, [], ◌∷◌, ◌++◌, ℕ, zero, suc, ◌+◌, ◌-◌, ◌<◌, arith, take, drop, get_or, drop-drop}
+use lib.Seq.{take-nil}
 use Rattle.cdf_unit_table.proofs.Parts.{drop-take}
 use Rattle.cdf_grammar.specs.Encoding.{Bytes}
 

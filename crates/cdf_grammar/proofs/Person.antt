@@ -1,8 +1,5 @@
 -- The tree of the sample K2 is one of the published grammar.
-use mathlib.Core.Path.{refl}
-use mathlib.Core.List.{[], ◌∷◌}
-use mathlib.Core.Logic.{inl, inr}
-use native.Mathlib.Omega.{arith}
+use Rattle.std.proofs.Common.{refl, [], ◌∷◌, inl, inr, arith}
 use Rattle.cdf_unit_table.specs.Ids.{template, temporary_key, field}
 use Rattle.cdf_grammar.specs.Content.{end, piece}
 use Rattle.cdf_grammar.specs.Trees.{ids}

@@ -1,13 +1,7 @@
 -- Prefixes as bytes: what was written is read, and what is read was written.
-use mathlib.Core.Path.{◌≡◌, refl}
-use mathlib.Core.Bool.{true}
-use mathlib.Core.List.{List, [], ◌∷◌, ◌++◌, append_assoc}
-use Prim.Native.Nat.{ℕ, suc, ◌+◌, ◌-◌, ◌^◌, ◌≤◌, ◌<◌}
-use native.Mathlib.Omega.{arith}
-use borrow.Author.Tests.{eqb-true, eq-eqb}
-use lib.Dec.{eqb}
-use lib.ListN.{length, take, drop, get_or, length-append}
-use lib.Seq.{drop-cons, drop-drop, take-add, get_or_at}
+use Rattle.std.proofs.Common.{◌≡◌, refl, true, List, [], ◌∷◌, ◌++◌, append_assoc, ℕ, suc, ◌+◌, ◌-◌, ◌^◌, ◌≤◌, ◌<◌, arith, eqb-true, eq-eqb, eqb}
+use Rattle.std.proofs.Common.{length, take, drop, get_or, length-append, drop-cons, drop-drop, take-add}
+use Rattle.std.proofs.lemmas.List.{get_or_at}
 use Rattle.cdf_unit_prefix.specs.Layout.{Layout, prefix_of, marked, length_at, action_at, id_at}
 use Rattle.cdf_unit_table.proofs.Bools.{both}
 use Rattle.cdf_grammar.specs.Encoding.{bytes_of, prefix_bytes, Bytes}

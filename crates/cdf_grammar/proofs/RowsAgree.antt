@@ -1,14 +1,7 @@
 -- The rows agree with the content models of the productions: in every state they allow the same to follow.
-use Prim.Native.Nat.{ℕ, ◌<◌, ◌≤◌}
-use mathlib.Core.Path.{◌≡◌, refl, sym, ap, subst}
-use mathlib.Core.Bool.{Bool, true, false, cond}
-use mathlib.Core.List.{List, [], ◌∷◌}
+use Rattle.std.proofs.Common.{ℕ, ◌<◌, ◌≤◌, ◌≡◌, refl, sym, ap, subst, Bool, true, false, cond, List, [], ◌∷◌, ◌↔◌, arith, T, eqb, ltb, ltb→lt, get_or}
 use mathlib.Core.Logic.Iff
-use mathlib.Core.Logic.{◌↔◌}
 use mathlib.Core.Option.{Option, none, some}
-use native.Mathlib.Omega.{arith}
-use lib.Dec.{T, eqb, ltb, ltb→lt}
-use lib.ListN.{get_or}
 use Rattle.cdf_unit_table.specs.Ids.{stream, call, parameter, er_group, template, temporary_key, template_key, field, relation, ordered_relation}
 use Rattle.cdf_unit_table.specs.Ids.{entity_key, file_group, line, ids_end}
 use Rattle.cdf_unit_table.specs.States.{parents, states_end, admit, opens, nothing, complete}

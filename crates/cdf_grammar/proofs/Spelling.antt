@@ -1,14 +1,10 @@
 -- Content models read id by id: whether one spells no id, and what it spells after a first id.
-use Prim.Native.Nat.{ℕ, ◌≤◌}
-use mathlib.Core.Path.{◌≡◌, refl, sym, ◌∙◌, ap, subst}
-use mathlib.Core.Bool.{Bool, true, false, ◌&&◌, ◌||◌, cond, false≢true}
-use mathlib.Core.List.{List, [], ◌∷◌, ◌++◌, nil≢cons, cons≢nil}
+use Rattle.std.proofs.Common.{ℕ, ◌≤◌, ◌≡◌, refl, sym, ◌∙◌, ap, subst, Bool, true, false, ◌&&◌, ◌||◌, cond, List, [], ◌∷◌, ◌++◌, ◌↔◌, ◌⊎◌, inl, inr}
+use Rattle.std.proofs.Common.{eqb-true, ne_eqb, arith, T, eqb, ltb, ltb→lt}
+use Rattle.std.proofs.lemmas.Bool.{false≢true, eqb-false}
+use mathlib.Core.List.{nil≢cons, cons≢nil}
 use mathlib.Core.Logic.Iff
-use mathlib.Core.Logic.{◌↔◌, ◌⊎◌, inl, inr}
 use mathlib.Core.Option.{Option, none, some}
-use borrow.Author.Tests.{eqb-true, eqb-false, ne_eqb}
-use native.Mathlib.Omega.{arith}
-use lib.Dec.{T, eqb, ltb, ltb→lt}
 use Rattle.cdf_unit_table.proofs.Tests.{and_left, and_right}
 use Rattle.cdf_grammar.specs.Content.{Content, empty, one, both, either, many, Pieces, end, piece, Spells}
 

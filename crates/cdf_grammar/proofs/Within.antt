@@ -1,21 +1,17 @@
 -- The unit at the front of the bytes, as the root or one level down: the list of its units ends exactly if it is the encoding of a
 -- tree that fits.
-use mathlib.Core.Path.{◌≡◌, refl, sym, ap, subst, ◌∙◌}
-use mathlib.Core.Bool.{Bool, true, false, false≢true}
-use mathlib.Core.List.{List, [], ◌∷◌, ◌++◌, append-nil, cons≢nil}
-use Prim.Native.Nat.{ℕ, suc, ◌+◌, ◌^◌, ◌≤◌, ◌<◌}
-use native.Mathlib.Omega.{arith}
-use lib.ListN.{length, take}
+use Rattle.std.proofs.Common.{◌≡◌, refl, sym, ap, subst, ◌∙◌, Bool, true, false, List, [], ◌∷◌, ◌++◌, append-nil, ℕ, suc, ◌+◌, ◌^◌, ◌≤◌, ◌<◌, arith}
+use Rattle.std.proofs.Common.{length, take}
+use Rattle.std.proofs.lemmas.Bool.{false≢true}
+use mathlib.Core.List.{cons≢nil}
 use lib.Seq.{take-length}
 use Rattle.cdf_unit_prefix.specs.Layout.{Layout, length_at, id_at}
 use Rattle.cdf_unit_table.specs.States.{admit, admits, root_kind}
-use Rattle.cdf_unit_judge.specs.Judge.{judge_of}
+use Rattle.cdf_unit_judge.specs.Judge.{judge_of, Judged, Fault, Found}
 use Rattle.cdf_unit_list.specs.Units.{End, unfinished, ended, fault, Listing, list_by, listing}
 use Rattle.cdf_unit_list.specs.Check.{answer_of, answer, check_in}
 use Rattle.cdf_unit_list.specs.Stack.{entered}
 use Rattle.cdf_unit_list.specs.Steps.{steps_from, steps}
-use Rattle.cdf_unit_judge.specs.declared.Judged.{Judged}
-use Rattle.cdf_unit_judge.specs.declared.Judged.TheVariants.{Fault, Found}
 use Rattle.cdf_unit_judge.proofs.Placed.{placed}
 use Rattle.cdf_unit_table.proofs.Rows.{admits_nested, admits_root, root_kind_lem, root_opens}
 use Rattle.cdf_unit_list.proofs.Agreement.{follows}

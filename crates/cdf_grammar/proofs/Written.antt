@@ -1,15 +1,10 @@
 -- The bytes of a unit that the judge passes are that unit, written.
-use mathlib.Core.Path.{◌≡◌, refl, ap}
-use mathlib.Core.Bool.{Bool, true, false, cond}
-use mathlib.Core.List.{List, ◌++◌}
-use Prim.Native.Nat.{ℕ, ◌+◌, ◌-◌}
-use native.Mathlib.Omega.{arith}
-use lib.ListN.{length, take, drop, length-append, length-take, length-drop}
-use lib.Seq.{take-add}
+use Rattle.std.proofs.Common.{◌≡◌, refl, ap, Bool, true, false, cond, List, ◌++◌, ℕ, ◌+◌, ◌-◌, arith, length, take, drop, length-append, length-take}
+use Rattle.std.proofs.Common.{length-drop, take-add}
 use Rattle.cdf_unit_prefix.specs.Layout.{Layout, prefix_of}
 use Rattle.cdf_unit_table.specs.States.{opens, nothing, complete}
 use Rattle.cdf_unit_data.specs.Data.{own_data}
-use Rattle.cdf_unit_data.specs.declared.Own.TheVariants.{Taken}
+use Rattle.std.specs.Prelude.{Ok}
 use Rattle.cdf_unit_judge.proofs.Placed.{Placed}
 use Rattle.cdf_grammar.specs.Trees.{Forest, none, ids}
 use Rattle.cdf_grammar.specs.Encoding.{prefix_bytes, unit_bytes, encode, Bytes}
@@ -39,7 +34,7 @@ pub unit_written : {l : Layout} {root : Bool} {state : ℕ} {s : List ℕ} {id a
 unit_written {l} {s = s} {id = id} {action = action} {own = own} {len = len} p b body is inner all full leaf fit =
     let k = prefix_of l in
     let text = text_of id (own - k) body in
-    let taken : own_data id body ≡ Taken (own - k) = rw is p.taken in
+    let taken : own_data id body ≡ Ok (own - k) = rw is p.taken in
     let same = (taken_text id p.recognised body (own - k) taken text refl).1 in
     let long : length body ≡ len - k = simp (is, length-take, length-drop) (omega arith) in
     let pieces = length-append text (encode l inner) in

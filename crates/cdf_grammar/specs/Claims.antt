@@ -1,7 +1,7 @@
 -- What is claimed of the check's definition and the published grammar: the check accepts exactly what it describes (01,
 -- "What the statements have to settle"). The term of this record stands in proofs/Proved.
-use Rattle.std.specs.Prelude.{ℕ, ◌≤◌, ◌≡◌, cond, ◌||◌, ◌↔◌, ◌⊎◌, eqb, length}
-use mathlib.Core.List.{List, [], ◌∷◌, map, flatten}
+use Rattle.std.specs.Prelude.{ℕ, ◌≤◌, ◌≡◌, cond, ◌||◌, ◌↔◌, ◌⊎◌, eqb, length, List, [], ◌∷◌, map}
+use mathlib.Core.List.{flatten}
 use Rattle.cdf_unit_table.specs.Ids.{er_group, template, temporary_key, template_key, entity_key, file_group}
 use Rattle.cdf_unit_prefix.specs.Layout.{Layout, layout_of}
 use Rattle.cdf_unit_list.specs.Units.{listing}

@@ -1,6 +1,6 @@
 -- Groups from the bytes of their units.
-use Rattle.std.specs.Prelude.{ℕ, ◌≡◌, length}
-use mathlib.Core.List.{List, [], ◌∷◌, map, flatten}
+use Rattle.std.specs.Prelude.{ℕ, ◌≡◌, length, List, [], ◌∷◌, map}
+use mathlib.Core.List.{flatten}
 use Rattle.cdf_unit_table.specs.States.{nothing}
 use Rattle.cdf_unit_prefix.specs.Layout.{Layout, length_at}
 use Rattle.cdf_unit_list.specs.Check.{check_in}

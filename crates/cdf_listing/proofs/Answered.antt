@@ -1,14 +1,10 @@
 -- The text by the check's answer.
-use Prim.Native.Nat.{ℕ}
-use mathlib.Core.Path.{◌≡◌, refl}
-use mathlib.Core.List.{List, ◌++◌}
-use lib.ListN.{length}
+use Rattle.std.proofs.Common.{ℕ, ◌≡◌, refl, List, ◌++◌, length}
 use Rattle.cdf_unit_table.proofs.Bools.{clash}
 use Rattle.cdf_unit_prefix.specs.Layout.{Layout}
 use Rattle.cdf_unit_list.specs.Units.{End, unfinished, ended, fault, listing}
 use Rattle.cdf_unit_list.proofs.Proved.{proved}
-use Rattle.cdf_check.specs.Answers.{checked_by, checked_of}
-use Rattle.cdf_check.specs.declared.Checked.TheVariants.{Accepted, Refused}
+use Rattle.cdf_check.specs.Answers.{checked_by, checked_of, Accepted, Refused}
 use Rattle.cdf_listing_spec.specs.Text.{listed_lines, ok_line, refused_line, listing_text}
 use Rattle.cdf_listing_spec.proofs.Short.{ok_text, refused_text}
 

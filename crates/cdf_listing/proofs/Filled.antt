@@ -1,14 +1,6 @@
 -- A text and a buffer: whether there is room, and what the contract asks of a text that was put at the front.
-use Prim.Native.Nat.{ℕ}
-use mathlib.Core.Path.{◌≡◌, ◌∙◌}
-use mathlib.Core.Bool.{true, false}
-use mathlib.Core.List.{List}
-use native.Mathlib.Nat.{zero-add}
-use native.Mathlib.Omega.{arith}
-use borrow.Author.Tests.{leb-true, le-leb}
-use lib.Dec.{leb}
-use lib.ListN.{length}
-use lib.Seq.{sets-eq}
+use Rattle.std.proofs.Common.{ℕ, ◌≡◌, ◌∙◌, true, false, List, zero-add, arith, leb-true, le-leb, leb, length}
+use Rattle.std.proofs.lemmas.List.Edits.{sets-eq}
 use Rattle.cdf_unit_table.proofs.Bools.{both}
 use Rattle.cdf_unit_prefix.specs.Layout.{layout_of}
 use Rattle.cdf_unit_prefix.specs.declared.Edition.TheVariants.{First}

@@ -6,35 +6,27 @@ ghost use Rattle.cdf_unit_prefix.specs.Layout.{layout_of};
 ghost use Rattle.cdf_unit_prefix.specs.declared.Edition.TheVariants.{First};
 ghost use Rattle.cdf_listing_spec.specs.Text.{listed_lines, listing_text};
 ghost use Rattle.cdf_listing_lines.specs.Put.{Put};
-ghost use Rattle.cdf_listing.specs.Written.{any_fits, written_of, buffer_of};
+ghost use Rattle.cdf_listing.specs.Written.{any_fits, written_by, written_of, buffer_of};
 
-use cdf_check::{Checked, check_as};
+use cdf_check::check_as;
 use cdf_listing_lines::{put_line, put_ok, put_refused};
 use cdf_reader::first_as;
+use cdf_refusal::Refusal;
 use cdf_unit_own::row::NAME_BYTES;
 use cdf_unit_prefix::Edition;
 
-// 0 and how many bytes were written, or 12 and none.
-#[derive(Clone, Copy)]
-pub struct Written {
-    pub number: usize,
-    pub length: usize,
-}
-
-// A line for each unit, from the front of the buffer on.
+// A line for each unit, from the front of the buffer on. Each step goes on from the place that the one before it left.
 fn put_units(s: &[u8], out: &mut [u8]) -> usize
     ensures { Put out.old 0 (listed_lines (layout_of First) s.now) out.new result }
 {
     let row = NAME_BYTES;
-    let mut a = first_as(Edition::First, s);
+    let mut next = first_as(Edition::First, s);
     let mut at = 0;
-    while a.number == 0 {
-        let p = a.place;
-        let depth = a.handed.depth;
+    while let Ok(a) = next {
         let unit = a.handed.unit;
         let size = unit.end - unit.start;
-        at = put_line(out, at as u32, depth, unit, size);
-        a = p.advance(&row, Edition::First, s);
+        at = put_line(out, at as u32, a.handed.depth, unit, size);
+        next = a.place.advance(&row, Edition::First, s);
     }
     at
 }
@@ -44,11 +36,11 @@ fn put_listing(s: &[u8], out: &mut [u8]) -> usize
     ensures { Put out.old 0 (listing_text (layout_of First) s.now) out.new result }
 {
     match check_as(Edition::First, s) {
-        Checked::Accepted(units) => {
+        Ok(units) => {
             let at = put_units(s, out);
             put_ok(out, at as u32, units)
         }
-        Checked::Refused { number, offset } => put_refused(out, number, offset),
+        Err(fault) => put_refused(out, fault.refusal.number(), fault.offset),
     }
 }
 
@@ -75,17 +67,14 @@ fn text_fits(s: &[u8], room: usize) -> bool
     size <= room
 }
 
-// Writes the listing of s, a stream of the first edition or any other bytes, at the front of the buffer, if the whole of it fits.
-pub fn write_listing(s: &[u8], buffer: &mut [u8]) -> Written
-    ensures is { result ≡ written_of (listing_text (layout_of First) s.now) buffer.old }
+// Writes the listing of s, a stream of the first edition or any other bytes, at the front of the buffer, if the whole of it fits, and
+// returns how many bytes it is.
+pub fn write_listing(s: &[u8], buffer: &mut [u8]) -> Result<usize, Refusal>
+    ensures is { written_by result ≡ written_of (listing_text (layout_of First) s.now) buffer.old }
     ensures bytes { buffer.new ≡ buffer_of (listing_text (layout_of First) s.now) buffer.old }
 {
     if !text_fits(s, buffer.len()) {
-        return Written {
-            number: 12,
-            length: 0,
-        };
+        return Err(Refusal::NoRoom);
     }
-    let length = put_listing(s, buffer);
-    Written { number: 0, length }
+    Ok(put_listing(s, buffer))
 }

@@ -8,6 +8,7 @@ ghost use Rattle.cdf_listing_spec.specs.Text.{listing_text};
 ghost use Rattle.cdf_listing.specs.Written.{written_of, buffer_of};
 
 use cdf_listing::write_listing;
+use cdf_refusal::tell;
 
 // Writes the listing of s at the front of text, if the whole of it fits: the number, 0 or 12; in answer the listing's length, beside
 // 12 none.
@@ -17,7 +18,5 @@ pub extern "C" fn cdf_listing(s: &[u8], text: &mut [u8], answer: &mut [u64; 1]) 
     ensures answer { answer.new ≡ (written_of (listing_text (layout_of First) s.now) text.old).length ∷ [] }
     ensures bytes { text.new ≡ buffer_of (listing_text (layout_of First) s.now) text.old }
 {
-    let written = write_listing(s, text);
-    *answer = [written.length as u64];
-    written.number as u64
+    tell(write_listing(s, text), answer)
 }

@@ -1,12 +1,8 @@
 -- Bytes put one behind the other.
-use Prim.Native.Nat.{ℕ, suc, ◌+◌, ◌<◌}
-use mathlib.Core.Path.{◌≡◌, refl, sym}
-use mathlib.Core.List.{List, [], ◌∷◌, ◌++◌}
-use native.Mathlib.Nat.{add-suc, add-zero, suc-add}
-use native.Mathlib.Numerals.{add-one}
-use native.Mathlib.Omega.{arith}
-use lib.ListN.{length, get_or, take, length-append}
-use lib.Seq.{sets, length-sets, length-take-le, take-suc}
+use Rattle.std.proofs.Common.{ℕ, suc, ◌+◌, ◌<◌, ◌≡◌, refl, sym, List, [], ◌∷◌, ◌++◌, add-suc, add-zero, suc-add, add-one, arith, length, get_or, take}
+use Rattle.std.proofs.Common.{length-append, take-suc}
+use Rattle.std.proofs.lemmas.List.Edits.{sets}
+use lib.Seq.{length-sets}
 use Rattle.cdf_listing_lines.specs.Put.{Room, Put}
 
 sets_append : (xs ys l : List ℕ) (at : ℕ) → sets l at (xs ++ ys) ≡ sets (sets l at xs) (at + length xs) ys
@@ -34,9 +30,6 @@ pub put_length : {l m xs : List ℕ} {at behind : ℕ} → Put l at xs m behind 
 put_length {l = l} {xs = xs} {at = at} p = rw p.is (length-sets l at xs)
 
 -- One more byte of some.
-module _ (bs : List ℕ) (i : ℕ) (less : i < length bs) {l m : List ℕ} {at behind : ℕ} (p : Put l at (take i bs) m behind) where
-  pub put_more : {r : List ℕ} {end : ℕ} → Put m behind (get_or bs i 0 ∷ []) r end → Put l at (take (i + 1) bs) r end
-  put_more q = rw (add-one, take-suc bs i 0) (put_both p q)
-
-  pub put_room : {b : ℕ} → Room at bs → Room behind (b ∷ [])
-  put_room h = record { held = omega (arith, length-take-le i bs (omega arith)) }
+pub put_more : (bs : List ℕ) (i : ℕ) → i < length bs → {l m r : List ℕ} {at behind end : ℕ} → Put l at (take i bs) m behind →
+    Put m behind (get_or bs i 0 ∷ []) r end → Put l at (take (i + 1) bs) r end
+put_more bs i less p q = rw (add-one, take-suc bs i 0) (put_both p q)

@@ -1,8 +1,5 @@
 -- Behind any line there is a number for the place, if it is put at a place that a u32 holds.
-use Prim.Native.Nat.{ℕ, ◌^◌, ◌≤◌, ◌<◌}
-use mathlib.Core.List.{[], ◌∷◌, ◌++◌}
-use native.Mathlib.Omega.{arith}
-use lib.ListN.{length, length-append}
+use Rattle.std.proofs.Common.{ℕ, ◌^◌, ◌≤◌, ◌<◌, [], ◌∷◌, ◌++◌, arith, length, length-append}
 use Rattle.cdf_unit_list.specs.declared.Unit.{Unit}
 use Rattle.cdf_listing_spec.specs.Decimal.{decimal}
 use Rattle.cdf_listing_spec.specs.Text.{number, columns, ok_line, refused_line}

@@ -9,7 +9,7 @@ ghost use Rattle.cdf_listing_lines.specs.Put.{Room, Put};
 use cdf_unit_list::Unit;
 
 // The functions named put_.. put bytes at a place of the buffer, as far as it goes, and return the place behind them: with too
-// small a buffer they still count.
+// small a buffer they still count. A struct of both would hold the loan, and each method had to promise that it stays.
 fn put_byte(out: &mut [u8], at: usize, byte: u8) -> usize
     requires { Room at (byte ∷ []) }
     ensures { Put out.old at (byte ∷ []) out.new result }
@@ -24,12 +24,9 @@ fn put_bytes(out: &mut [u8], at: usize, bytes: &[u8]) -> usize
     requires { Room at bytes.now }
     ensures { Put out.old at bytes.now out.new result }
 {
-    let mut i = 0;
     let mut next = at;
-    while i < bytes.len() {
-        let byte = bytes[i];
+    for &byte in bytes {
         next = put_byte(out, next, byte);
-        i += 1;
     }
     next
 }
@@ -38,8 +35,7 @@ fn put_digit(out: &mut [u8], at: usize, d: usize) -> usize
     requires { Room at (digit d) × (d < 10) }
     ensures { Put out.old at (digit d) out.new result }
 {
-    let byte = b'0' + d as u8;
-    put_byte(out, at, byte)
+    put_byte(out, at, b'0' + d as u8)
 }
 
 fn put_decimal(out: &mut [u8], at: usize, n: usize) -> usize
@@ -76,8 +72,7 @@ fn put_columns(out: &mut [u8], at: usize, depth: usize, unit: Unit) -> usize
 pub fn put_line(out: &mut [u8], at: u32, depth: usize, unit: Unit, size: usize) -> usize
     ensures { Put out.old at (columns depth unit ++ decimal size ++ 10 ∷ []) out.new result }
 {
-    let from = at as usize;
-    let after_columns = put_columns(out, from, depth, unit);
+    let after_columns = put_columns(out, at as usize, depth, unit);
     let after_size = put_decimal(out, after_columns, size);
     put_byte(out, after_size, b'\n')
 }
@@ -85,8 +80,7 @@ pub fn put_line(out: &mut [u8], at: u32, depth: usize, unit: Unit, size: usize) 
 pub fn put_ok(out: &mut [u8], at: u32, units: usize) -> usize
     ensures { Put out.old at (ok_line units) out.new result }
 {
-    let from = at as usize;
-    let after_ok = put_bytes(out, from, b"ok ");
+    let after_ok = put_bytes(out, at as usize, b"ok ");
     let after_units = put_decimal(out, after_ok, units);
     put_byte(out, after_units, b'\n')
 }

@@ -33,8 +33,7 @@ fn list(s: &[u8], text: &mut [u8]) -> usize
     ensures counts { (result ≤ length text.new) × (result ≡ length (take result text.new)) }
     ensures is { take result text.new ≡ listing_text (layout_of First) s.now }
 {
-    let written = write_listing(s, text);
-    written.length
+    write_listing(s, text).unwrap_or(0)
 }
 
 fn main(rt: HostRuntime) -> io::Result<()> {

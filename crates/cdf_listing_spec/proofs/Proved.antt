@@ -1,5 +1,5 @@
 -- The claims of this crate, proved.
-use mathlib.Core.Path.{refl}
+use Rattle.std.proofs.Common.{refl}
 use Rattle.cdf_unit_list.specs.Units.{listing, depths}
 use Rattle.cdf_unit_list.specs.Check.{check_of}
 use Rattle.cdf_listing_spec.specs.Decimal.{digits_by, decimal}

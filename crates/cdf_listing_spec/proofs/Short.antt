@@ -1,11 +1,6 @@
 -- How long the text is.
-use Prim.Native.Nat.{ℕ, suc, ◌+◌, ◌-◌, ◌*◌, ◌^◌, ◌≤◌, ◌<◌}
-use mathlib.Core.Path.{◌≡◌, refl}
-use mathlib.Core.List.{List, [], ◌∷◌, ◌++◌}
-use mathlib.Core.Logic.{⊎_elim}
-use native.Mathlib.Omega.{arith}
-use borrow.Author.Tests.{ne_eqb}
-use lib.ListN.{length, get_or, length-append}
+use Rattle.std.proofs.Common.{ℕ, suc, ◌+◌, ◌-◌, ◌*◌, ◌^◌, ◌≤◌, ◌<◌, ◌≡◌, refl, List, [], ◌∷◌, ◌++◌, ⊎_elim, arith, ne_eqb, length, get_or}
+use Rattle.std.proofs.Common.{length-append}
 use Rattle.cdf_unit_prefix.specs.Layout.{Layout, layout_of}
 use Rattle.cdf_unit_prefix.specs.declared.Edition.TheVariants.{First}
 use Rattle.cdf_unit_list.specs.Units.{End, unfinished, ended, fault, listing, depths}

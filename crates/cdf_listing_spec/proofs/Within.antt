@@ -1,26 +1,19 @@
 -- Listed units lie within the bytes, and have an id and an action of the table; a fault's offset lies within the bytes too.
-use Prim.Native.Nat.{ℕ, ◌+◌, ◌-◌, ◌≤◌, ◌<◌}
-use mathlib.Core.Path.{◌≡◌, refl, sym, ◌∙◌}
-use mathlib.Core.Bool.{Bool, true, false, false≢true}
-use mathlib.Core.List.{List, [], ◌∷◌}
-use mathlib.Core.Logic.{◌⊎◌, inl, inr}
-use native.Mathlib.Omega.{arith}
+use Rattle.std.proofs.Common.{ℕ, ◌+◌, ◌-◌, ◌≤◌, ◌<◌, ◌≡◌, refl, sym, ◌∙◌, Bool, true, false, List, [], ◌∷◌, ◌⊎◌, inl, inr, arith, ltb-true, leb, ltb}
+use Rattle.std.proofs.Common.{eqb, length, take, drop, length-take, length-drop}
+use Rattle.std.proofs.lemmas.Bool.{false≢true}
 use native.Mathlib.Decide.{dec_lt}
-use borrow.Author.Tests.{ltb-true}
-use lib.Dec.{leb, ltb, eqb}
-use lib.ListN.{length, take, drop, length-take, length-drop}
 use Rattle.cdf_unit_table.specs.Ids.{ids_end, known, kind_of, action_allowed}
 use Rattle.cdf_unit_table.specs.States.{opens, complete}
 use Rattle.cdf_unit_table.proofs.Bools.{both, of_cond, clash}
 use Rattle.cdf_unit_table.proofs.Tests.{all, below_at, not_member}
 use Rattle.cdf_unit_prefix.specs.Layout.{Layout}
-use Rattle.cdf_unit_judge.specs.Judge.{judge_of}
-use Rattle.cdf_unit_judge.specs.declared.Judged.{Judged}
-use Rattle.cdf_unit_judge.specs.declared.Judged.TheVariants.{Fault, Found}
+use Rattle.cdf_unit_judge.specs.Judge.{judge_of, Judged, Fault, Found}
 use Rattle.cdf_unit_judge.proofs.Placed.{placed}
 use Rattle.cdf_unit_judge.proofs.Faults.{offset_lies}
 use Rattle.cdf_unit_list.specs.Units.{End, unfinished, ended, fault, listing}
-use Rattle.cdf_unit_list.specs.Stack.{Closing, incomplete, left, close, Step, done, refused, found, opened, entered, with_state, step_in, step, step_by, step_in_by}
+use Rattle.cdf_unit_list.specs.Stack.{Closing, incomplete, left, close, Step, done, refused, found, opened, entered, with_state}
+use Rattle.cdf_unit_list.specs.Stack.{step_in, step, step_by, step_in_by}
 use Rattle.cdf_unit_list.specs.declared.Unit.{Unit}
 use Rattle.cdf_unit_list.specs.declared.Open.{Open}
 use Rattle.cdf_unit_list.proofs.Entering.{unit_from}

@@ -2,9 +2,8 @@
 use Rattle.std.specs.Prelude.{ℕ, ◌+◌, ◌≡◌, List, take, drop}
 use Rattle.std.specs.Borrow.{Bor}
 use Rattle.cdf_unit_prefix.specs.Layout.{layout_for}
-use Rattle.cdf_lookup_spec.specs.Find.{query, lookup_of}
+use Rattle.cdf_lookup_spec.specs.Find.{query, Lookup, lookup_of}
 use Rattle.cdf_lookup_spec.specs.Chosen.{stream_of}
-use Rattle.cdf_lookup_spec.specs.declared.Lookup.{Lookup}
 
 -- A lent slice: where it stands, and its bytes.
 abbrev pub Lent : Type 0

@@ -1,9 +1,5 @@
 -- What a start tells of a stream's root.
-use mathlib.Core.Path.{◌≡◌, refl, ap, ◌∙◌}
-use mathlib.Core.Bool.{false}
-use mathlib.Core.List.{List, [], ◌∷◌}
-use Prim.Native.Nat.{ℕ}
-use lib.Dec.{eqb}
+use Rattle.std.proofs.Common.{◌≡◌, refl, ap, ◌∙◌, false, List, [], ◌∷◌, ℕ, eqb}
 use Rattle.cdf_unit_table.specs.Ids.{er_group}
 use Rattle.cdf_unit_table.proofs.Bools.{of_cond}
 use Rattle.cdf_unit_prefix.specs.Layout.{Layout}

@@ -1,14 +1,8 @@
 -- What a lookup answers, in the words of the claims.
-use Prim.Native.Nat.{ℕ, ◌-◌, ◌≤◌}
-use mathlib.Core.Path.{◌≡◌, refl, sym, ◌∙◌}
-use mathlib.Core.Bool.{Bool, not, ◌&&◌}
-use mathlib.Core.List.{List}
-use mathlib.Core.Logic.{◌⊎◌, inl, inr}
+use Rattle.std.proofs.Common.{ℕ, ◌-◌, ◌≤◌, ◌≡◌, refl, sym, ◌∙◌, Bool, not, ◌&&◌, List, ◌⊎◌, inl, inr, arith, eqb, length}
+use Rattle.std.proofs.lemmas.Bool.{eqb-false, not-true}
 use mathlib.Core.Option.{Option, none, some}
-use native.Mathlib.Omega.{arith}
-use borrow.Author.Tests.{eqb-false, not-true}
-use lib.Dec.{eqb}
-use lib.ListN.{length}
+use Rattle.std.specs.Prelude.{Some, None as Missing}
 use Rattle.cdf_unit_table.specs.Ids.{field}
 use Rattle.cdf_unit_table.proofs.Bools.{of_cond, clash}
 use Rattle.cdf_unit_prefix.specs.Layout.{Layout}
@@ -16,13 +10,10 @@ use Rattle.cdf_unit_list.specs.Units.{End, unfinished, ended, fault, listing}
 use Rattle.cdf_unit_list.specs.Check.{answer_of, answer, check_of}
 use Rattle.cdf_unit_list.specs.declared.Unit.{Unit}
 use Rattle.cdf_unit_list.proofs.Proved.{proved}
-use Rattle.cdf_lookup_spec.specs.Find.{Query, named, inside, first_that, is_that_template, value_of, value_inside, value_in}
-use Rattle.cdf_lookup_spec.specs.Find.{refusal, found, or_else, is_group, lookup_of}
+use Rattle.cdf_lookup_spec.specs.Find.{Query, Value, at_span, named, inside, first_that, is_that_template, value_of, value_inside, value_in}
+use Rattle.cdf_lookup_spec.specs.Find.{Lookup, refusal, found, or_else, is_group, lookup_of}
 use Rattle.cdf_lookup_spec.specs.Chosen.{None, FieldIn, Asked, Chosen, Lacks, stream_of}
-use Rattle.cdf_lookup_spec.specs.declared.Value.{Value}
-use Rattle.cdf_lookup_spec.specs.declared.Value.TheVariants.{At, Missing}
-use Rattle.cdf_lookup_spec.specs.declared.Lookup.{Lookup}
-use Rattle.cdf_lookup_spec.proofs.Telling.{first_some, first_none, some_first, asked_tells, field_tells}
+use Rattle.cdf_lookup_spec.proofs.Telling.{span_is, first_some, first_none, some_first, asked_tells, field_tells}
 
 -- The check's numbers are 0 and 3 to 10,
 abbrev OfCheck : ℕ → Type 0
@@ -45,8 +36,8 @@ check_below l s e = omega (arith, check_numbers l s (λ z. omega arith))
 module _ (l m : Layout) (s t : List ℕ) (q : Query) where
   record Cases (P : Lookup → Type 0) : Type 0 where
     refused : (n at : ℕ) → (n ≡ 0 → ⊥) → (n ≡ 15 → ⊥) → P (refusal n at)
-    first : (a e : ℕ) → value_in l s q ≡ At a e → P (found 1 a e)
-    second : (a e : ℕ) → value_in l s q ≡ Missing → value_in m t q ≡ At a e → P (found 2 a e)
+    first : (a e : ℕ) → value_in l s q ≡ at_span a e → P (found 1 a e)
+    second : (a e : ℕ) → value_in l s q ≡ Missing → value_in m t q ≡ at_span a e → P (found 2 a e)
     neither : value_in l s q ≡ Missing → value_in m t q ≡ Missing → P (refusal 15 0)
 
   searched : (P : Lookup → Type 0) → Cases P → P (or_else 1 (value_in l s q) (or_else 2 (value_in m t q) (refusal 15 0)))
@@ -54,8 +45,8 @@ module _ (l m : Layout) (s t : List ℕ) (q : Query) where
   searched P c = go (value_in l s q) (value_in m t q) refl refl
     where
       go : (v w : Value) → value_in l s q ≡ v → value_in m t q ≡ w → P (or_else 1 v (or_else 2 w (refusal 15 0)))
-      go (At a e) w x y = c.first a e x
-      go Missing (At a e) x y = c.second a e x y
+      go (Some v) w x y = c.first v.start v.end x
+      go Missing (Some w) x y = c.second w.start w.end x y
       go Missing Missing x y = c.neither x y
 
   answered : (P : Lookup → Type 0) → Cases P → P (lookup_of l m s t q)
@@ -89,15 +80,14 @@ module _ (l : Layout) (s : List ℕ) (q : Query) where
   unfolding value_inside
   inside_none = refl
 
-  chosen : (start end : ℕ) → value_in l s q ≡ At start end → Chosen l s q start (end - start)
+  chosen : (start end : ℕ) → value_in l s q ≡ at_span start end → Chosen l s q start (end - start)
   chosen start end e = go (first_that is_asked (listing l s).units) refl (sym value_is ∙ e)
     where
       with_field : (t : Unit) → first_that is_asked (listing l s).units ≡ some t → (o : Option Unit) → first_that (is_field t) (listing l s).units ≡ o →
-          value_of o ≡ At start end → Chosen l s q start (end - start)
+          value_of o ≡ at_span start end → Chosen l s q start (end - start)
       with_field t x none y z = clash cc
       with_field t x (some u) y z =
-          let begins : start ≡ u.own = cc in
-          let ends : end ≡ u.end = cc in
+          let (begins, ends) = span_is (record { start = start; end = end }) (record { start = u.own; end = u.end }) (sym z) in
           record {
             template = t;
             field = u;
@@ -107,7 +97,7 @@ module _ (l : Layout) (s : List ℕ) (q : Query) where
             long = rw (begins, ends);
           }
 
-      go : (o : Option Unit) → first_that is_asked (listing l s).units ≡ o → value_inside l s q (listing l s).units o ≡ At start end →
+      go : (o : Option Unit) → first_that is_asked (listing l s).units ≡ o → value_inside l s q (listing l s).units o ≡ at_span start end →
           Chosen l s q start (end - start)
       go none x z = clash (cc inside_none)
       go (some t) x z = with_field t x (first_that (is_field t) (listing l s).units) refl (sym (inside_is t) ∙ z)

@@ -1,22 +1,16 @@
 -- Which of its answers a lookup gives.
-use Prim.Native.Nat.{ℕ, ◌-◌}
-use mathlib.Core.Path.{◌≡◌, refl, sym, ◌∙◌}
-use mathlib.Core.Bool.{Bool, true, false, cond, not, false≢true}
-use mathlib.Core.List.{List, [], ◌∷◌}
-use mathlib.Core.Logic.{◌⊎◌, inl, inr, ◌↔◌}
-use native.Mathlib.Omega.{arith}
-use borrow.Author.Tests.{eqb-true, eq-eqb, ne_eqb}
+use Rattle.std.proofs.Common.{ℕ, ◌-◌, ◌≡◌, refl, sym, ◌∙◌, Bool, true, false, cond, not, List, [], ◌∷◌, ◌⊎◌, inl, inr, ◌↔◌, arith, eqb-true, eq-eqb}
+use Rattle.std.proofs.Common.{ne_eqb}
+use Rattle.std.proofs.lemmas.Bool.{false≢true}
+use Rattle.std.specs.Prelude.{Some, None}
 use Rattle.cdf_unit_table.specs.Ids.{er_group}
 use Rattle.cdf_unit_prefix.specs.Layout.{Layout}
 use Rattle.cdf_unit_list.specs.Units.{listing}
 use Rattle.cdf_unit_list.specs.Check.{check_of}
 use Rattle.cdf_unit_list.specs.declared.Unit.{Unit}
 use Rattle.cdf_grammar.specs.Claims.{Accepted}
-use Rattle.cdf_lookup_spec.specs.Find.{Query, value_in, refusal, or_else, is_group, lookup_of}
+use Rattle.cdf_lookup_spec.specs.Find.{Query, Value, at_span, value_in, Lookup, refusal, or_else, is_group, lookup_of}
 use Rattle.cdf_lookup_spec.specs.Chosen.{FieldIn, Asked, Chosen, Grouped}
-use Rattle.cdf_lookup_spec.specs.declared.Value.{Value}
-use Rattle.cdf_lookup_spec.specs.declared.Value.TheVariants.{At, Missing}
-use Rattle.cdf_lookup_spec.specs.declared.Lookup.{Lookup}
 use Rattle.cdf_lookup_spec.proofs.Telling.{some_first, asked_tells, field_tells}
 use Rattle.cdf_lookup_spec.proofs.Choosing.{is_field, is_asked, value_is, inside_is}
 
@@ -35,7 +29,7 @@ group_test l s (u, us, x, e) = rw x (eq-eqb u.id er_group e)
 
 -- A value that is chosen is the stream's.
 value_chosen : (l : Layout) (s : List ℕ) (q : Query) (start size : ℕ) → Chosen l s q start size →
-    (end : ℕ) × (value_in l s q ≡ At start end) × (end - start ≡ size)
+    (end : ℕ) × (value_in l s q ≡ at_span start end) × (end - start ≡ size)
 value_chosen l s q start size c = (
   c.field.end,
   rw (
@@ -74,9 +68,9 @@ module _ (l m : Layout) (s t : List ℕ) (q : Query) where
       where
         go : (v w : Value) → let r : Lookup = or_else 1 v (or_else 2 w (refusal 15 0)) in
             ((r.number ≡ 0) ⊎ (r.number ≡ 15)) × (r.offset ≡ 0)
-        go (At x e) w = (inl refl, refl)
-        go Missing (At x e) = (inl refl, refl)
-        go Missing Missing = (inr refl, refl)
+        go (Some x) w = (inl refl, refl)
+        go None (Some x) = (inl refl, refl)
+        go None None = (inr refl, refl)
 
     pub offset_none : (lookup_of l m s t q).offset ≡ 0
     offset_none = rw past_checks (go (is_group (listing l s).units) (is_group (listing m t).units))

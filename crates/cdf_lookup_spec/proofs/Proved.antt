@@ -1,5 +1,5 @@
 -- The claims of this crate, proved.
-use mathlib.Core.Path.{◌≡◌, refl}
+use Rattle.std.proofs.Common.{◌≡◌, refl}
 use Rattle.cdf_lookup_spec.specs.Samples.{samples_found, samples_due}
 use Rattle.cdf_lookup_spec.specs.Claims.{Claims}
 use Rattle.cdf_lookup_spec.proofs.Choosing.{named_one, chosen_part, second_lacks, equal_first, both_lack, refused_empty}

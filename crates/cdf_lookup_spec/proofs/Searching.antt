@@ -1,21 +1,16 @@
 -- One pass over the units finds what the definition says, where their starts rise and behind each template stands its first key.
-use Prim.Native.Nat.{ℕ, suc, ◌≤◌, ◌<◌}
-use mathlib.Core.Path.{◌≡◌, refl, sym, ◌∙◌}
-use mathlib.Core.Bool.{Bool, true, false, cond, ◌&&◌}
-use mathlib.Core.List.{List, [], ◌∷◌, foldl, reverse_aux}
-use mathlib.Core.Logic.{◌⊎◌, inl, inr}
+use Rattle.std.proofs.Common.{ℕ, suc, ◌≤◌, ◌<◌, ◌≡◌, refl, sym, ◌∙◌, Bool, true, false, cond, ◌&&◌, List, [], ◌∷◌, ◌⊎◌, inl, inr, arith, eqb-true}
+use Rattle.std.proofs.Common.{ne_eqb, lt-ltb, le-ltb, ltb-true, ltb-false, eqb, ltb}
+use mathlib.Core.List.{foldl, reverse_aux}
 use mathlib.Core.Option.{none, some}
-use native.Mathlib.Omega.{arith}
-use borrow.Author.Tests.{eqb-true, ne_eqb, lt-ltb, le-ltb, ltb-true, ltb-false}
-use lib.Dec.{eqb, ltb}
 use Rattle.cdf_unit_table.specs.Ids.{template, temporary_key, template_key, field}
 use Rattle.cdf_unit_table.proofs.Bools.{both}
 use Rattle.cdf_unit_prefix.specs.Layout.{Layout}
 use Rattle.cdf_unit_list.specs.declared.Unit.{Unit}
-use Rattle.cdf_lookup_spec.specs.Find.{Query, reads, named, is_key, is_that_key, inside, first_that, passes, is_that_template, value_of, value_inside}
+use Rattle.cdf_lookup_spec.specs.Find.{Query, reads, named, is_key, is_that_key, inside, first_that, passes, is_that_template}
+use Rattle.cdf_lookup_spec.specs.Find.{Value, at_span, value_of, value_inside}
 use Rattle.cdf_lookup_spec.specs.Search.{advance_of, outcome_of}
-use Rattle.cdf_lookup_spec.specs.declared.Value.{Value}
-use Rattle.cdf_lookup_spec.specs.declared.Value.TheVariants.{At, Missing}
+use Rattle.std.specs.Prelude.{None}
 use Rattle.cdf_lookup_spec.specs.declared.Search.TheVariants.{Seeking, Inside, Over}
 use Rattle.cdf_lookup_spec.proofs.Telling.{key_fact}
 use Rattle.cdf_lookup_spec.proofs.Ordered.{Rising, Keyed}
@@ -100,11 +95,11 @@ module _ (l : Layout) (s : List ℕ) (q : Query) where
   inside_turn t u b us h r more = go (ltb u.start t.end) refl (is_field u) refl
     where
       go : (x : Bool) → ltb u.start t.end ≡ x → (y : Bool) → is_field u ≡ y → InsideFinds t (u ∷ us)
-      go true e true f = rw (judged t is_field u h (ltb-true u.start t.end e), e, f) (over_stays (At u.own u.end) us)
+      go true e true f = rw (judged t is_field u h (ltb-true u.start t.end e), e, f) (over_stays (at_span u.own u.end) us)
       go true e false f = rw (judged t is_field u h (ltb-true u.start t.end e), e, f) more
       go false e y f =
           let end = ltb-false u.start t.end e in
-          rw (late t is_field u end, none_late t is_field (suc u.start) b us (omega arith) r, e) (over_stays Missing us)
+          rw (late t is_field u end, none_late t is_field (suc u.start) b us (omega arith) r, e) (over_stays None us)
 
   inside_finds : (t : Unit) (a b : ℕ) (us : List Unit) → t.start < a → Rising a b us → InsideFinds t us
   unfolding first_that

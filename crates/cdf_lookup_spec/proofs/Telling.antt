@@ -1,19 +1,23 @@
 -- What the tests of the definition tell, as facts.
-use Prim.Native.Nat.{ℕ}
-use mathlib.Core.Path.{◌≡◌, refl, sym, ◌∙◌}
-use mathlib.Core.Bool.{Bool, true, false, cond, ◌&&◌, false≢true}
-use mathlib.Core.List.{List, [], ◌∷◌}
-use mathlib.Core.Logic.{◌⊎◌, inl, inr}
+use Rattle.std.proofs.Common.{ℕ, ◌≡◌, refl, sym, ap, ◌∙◌, Bool, true, false, cond, ◌&&◌, List, [], ◌∷◌, ◌⊎◌, inl, inr, eqb-true, eq-eqb, lt-ltb}
+use Rattle.std.proofs.Common.{ltb-true, eqb, ltb}
+use Rattle.std.proofs.lemmas.Bool.{false≢true}
 use mathlib.Core.Option.{Option, none, some}
-use borrow.Author.Tests.{eqb-true, eq-eqb, lt-ltb, ltb-true}
-use lib.Dec.{eqb, ltb}
+use Rattle.std.specs.Prelude.{Some}
 use Rattle.cdf_unit_table.specs.Ids.{template, temporary_key, template_key, field}
 use Rattle.cdf_unit_table.proofs.Bools.{both, either, clash}
 use Rattle.cdf_unit_prefix.specs.Layout.{Layout}
 use Rattle.cdf_unit_list.specs.Units.{listing}
 use Rattle.cdf_unit_list.specs.declared.Unit.{Unit}
 use Rattle.cdf_lookup_spec.specs.Find.{Query, text_to, key_of, same_bytes, reads, named, is_key, is_that_key, inside, first_that, passes, is_that_template}
+use Rattle.cdf_lookup_spec.specs.declared.Span.{Span}
 use Rattle.cdf_lookup_spec.specs.Chosen.{First, here, later, None, Within, HasName, KeyIn, FieldIn, Asked}
+
+-- Two values that are the same begin and end alike.
+pub span_is : (v w : Span) → Some v ≡ Some w → (v.start ≡ w.start) × (v.end ≡ w.end)
+span_is v w e =
+    let same : v ≡ w = cc in
+    (ap (λ (r : Span). r.start) same, ap (λ (r : Span). r.end) same)
 
 pub bytes_same : (a b : List ℕ) → same_bytes a b ≡ true → a ≡ b
 unfolding same_bytes

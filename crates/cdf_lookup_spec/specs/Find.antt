@@ -1,14 +1,13 @@
 -- Which value counts (02, d): what is found in two streams, from their unit lists and their bytes.
-use Rattle.std.specs.Prelude.{ℕ, ◌+◌, ◌-◌, Bool, true, false, not, cond, ◌&&◌, ◌||◌, List, [], ◌∷◌, eqb, ltb, take, drop}
+use Rattle.std.specs.Prelude as std
+use Rattle.std.specs.Prelude.{Some, None, ℕ, ◌+◌, ◌-◌, Bool, true, false, not, cond, ◌&&◌, ◌||◌, List, [], ◌∷◌, eqb, ltb, take, drop}
 use Rattle.std.proofs.Math.Option.{Option, none, some}
 use Rattle.cdf_unit_table.specs.Ids.{er_group, template, temporary_key, template_key, field}
 use Rattle.cdf_unit_prefix.specs.Layout.{Layout, prefix_of}
 use Rattle.cdf_unit_list.specs.Units.{listing}
 use Rattle.cdf_unit_list.specs.Check.{check_of}
 use Rattle.cdf_unit_list.specs.declared.Unit.{Unit}
-use Rattle.cdf_lookup_spec.specs.declared.Lookup.{Lookup}
-use Rattle.cdf_lookup_spec.specs.declared.Value.{Value}
-use Rattle.cdf_lookup_spec.specs.declared.Value.TheVariants.{At, Missing}
+use Rattle.cdf_lookup_spec.specs.declared.Span.{Span}
 
 -- What is asked for: a template's name, the id and the bytes of its first key, and a field's name; names with their count byte (02, d).
 pub record Query : Type 0 where
@@ -76,14 +75,21 @@ unfolding reads is_key inside first_that passes
 is_that_template l s q us t =
     named l s template q.template t && passes (is_that_key l s q.key_id q.key) (first_that (λ u. inside t u && is_key u) us)
 
+-- Where a value stands in its stream, or that it does not.
+abbrev pub Value : Type 0
+Value = std.Option Span
+
+abbrev pub at_span : ℕ → ℕ → Value
+at_span start end = Some (record { start = start; end = end })
+
 -- In a template, the value of the first field of the name: what follows the name (02, d).
 abbrev pub value_of : Option Unit → Value
-value_of none = Missing
-value_of (some u) = At u.own u.end
+value_of none = None
+value_of (some u) = at_span u.own u.end
 
 unfoldable pub value_inside : Layout → List ℕ → Query → List Unit → Option Unit → Value
 unfolding reads inside first_that
-value_inside l s q us none = Missing
+value_inside l s q us none = None
 value_inside l s q us (some t) = value_of (first_that (λ u. inside t u && named l s field q.field u) us)
 
 -- Only the first such template of a stream is searched, whether or not it has the field (02, d).
@@ -92,6 +98,15 @@ unfolding is_that_template value_inside first_that listing
 value_in l s q =
     let us : List Unit = (listing l s).units in
     value_inside l s q us (first_that (is_that_template l s q us) us)
+
+-- A lookup's answer: the number and its offset; in which stream the value stands, 1 or 2, and 0 on a refusal; where it starts there and how
+-- many bytes it has, both 0 on a refusal.
+pub record Lookup : Type 0 where
+  pub number : ℕ
+  pub offset : ℕ
+  pub which : ℕ
+  pub start : ℕ
+  pub size : ℕ
 
 -- A refusal names no stream; its part is empty and begins where the first stream does (02, d).
 abbrev pub refusal : ℕ → ℕ → Lookup
@@ -103,8 +118,8 @@ found which start end = record { number = 0; offset = 0; which = which; start = 
 
 -- The value if it is in this stream, and else what is answered then.
 unfoldable pub or_else : ℕ → Value → Lookup → Lookup
-or_else which (At start end) other = found which start end
-or_else which Missing other = other
+or_else which (Some value) other = found which value.start value.end
+or_else which None other = other
 
 -- The root, which is listed first, is an E/R group.
 unfoldable pub is_group : List Unit → Bool

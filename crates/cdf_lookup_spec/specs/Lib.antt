@@ -1,4 +1,5 @@
 pub mod Find
+pub mod Told
 pub mod Search
 pub mod Chosen
 pub mod Samples

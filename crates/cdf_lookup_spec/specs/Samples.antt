@@ -3,8 +3,7 @@ use Rattle.std.specs.Prelude.{ℕ, List, [], ◌∷◌, set}
 use Rattle.cdf_unit_prefix.specs.Layout.{layout_of}
 use Rattle.cdf_unit_prefix.specs.declared.Edition.TheVariants.{First}
 use Rattle.cdf_unit_list.specs.Samples.{k1, k2}
-use Rattle.cdf_lookup_spec.specs.Find.{Query, query, refusal, lookup_of}
-use Rattle.cdf_lookup_spec.specs.declared.Lookup.{Lookup}
+use Rattle.cdf_lookup_spec.specs.Find.{Query, query, Lookup, refusal, lookup_of}
 
 -- PERSON and SURNAME, with their counts
 abbrev person : List ℕ

@@ -1,31 +1,44 @@
-// Which of two values counts: in specs/ what a lookup in two streams answers, and what is claimed of it; the types of the answer and of a
+// Which of two values counts: in specs/ what a lookup in two streams answers, and what is claimed of it; the types of what is found and of a
 // search.
 #![tactic(auto)]
 
-// A lookup's answer: the number and its offset; in which stream the value stands, 1 or 2, and 0 on a refusal; where it starts there and how
-// many bytes it has, both 0 on a refusal.
-#[derive(Clone, Copy)]
-pub struct Lookup {
-    pub number: usize,
-    pub offset: usize,
-    pub which: usize,
+// What is asked for: a template's name, the id and the bytes of its first key, and a field's name; names with their count byte.
+#[derive(Clone, Copy, Debug)]
+pub struct Query<'a> {
+    pub template: &'a [u8],
+    pub key_id: usize,
+    pub key: &'a [u8],
+    pub field: &'a [u8],
+}
+
+// Where a value stands in its stream: its first byte, and the byte after its last.
+#[derive(Clone, Copy, Debug, PartialEq, Eq)]
+pub struct Span {
+    pub start: usize,
+    pub end: usize,
+}
+
+// The streams of a lookup. Each is the number that crosses to C.
+#[derive(Clone, Copy, Debug, PartialEq, Eq)]
+pub enum Which {
+    First = 1,
+    Second = 2,
+}
+
+// What a lookup finds: in which stream the value stands, where it starts there, and how many bytes it has.
+#[derive(Clone, Copy, Debug, PartialEq, Eq)]
+pub struct Found {
+    pub which: Which,
     pub start: usize,
     pub size: usize,
 }
 
-// Where a value stands in its stream, or that it does not.
-#[derive(Clone, Copy)]
-pub enum Value {
-    At { start: usize, end: usize },
-    Missing,
-}
-
 // How far a search has come: there was no template yet that could be it; one that has the name ends there, and its first key comes next;
-// the one that is asked for ends there, and its fields come; it is over.
-#[derive(Clone, Copy)]
+// the one that is asked for ends there, and its fields come; it is over, and has found the value, or nothing.
+#[derive(Clone, Copy, Debug, PartialEq, Eq)]
 pub enum Search {
     Seeking,
     Named(usize),
     Inside(usize),
-    Over(Value),
+    Over(Option<Span>),
 }

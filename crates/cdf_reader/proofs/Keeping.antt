@@ -1,6 +1,5 @@
 -- Which place a refused call gives back.
-use mathlib.Core.Path.{◌≡◌, refl, sym}
-use mathlib.Core.Bool.{true, true≢false}
+use Rattle.std.proofs.Common.{◌≡◌, refl, sym, true, true≢false}
 use Rattle.cdf_reader_spec.specs.Calls.{is_start}
 use Rattle.cdf_reader_spec.specs.declared.Call.{Call}
 use Rattle.cdf_reader_spec.specs.declared.Call.TheVariants.{Start, Next, Skip, GetStream, Previous}

@@ -1,4 +1,4 @@
 pub mod Passing
 pub mod Keeping
-pub mod Answering
 pub mod Proved
+pub mod Walking

@@ -1,11 +1,5 @@
 -- When a place is passed, and the part that GET_STREAM takes.
-use Prim.Native.Nat.{ℕ, ◌-◌, ◌≤◌}
-use mathlib.Core.Path.{◌≡◌, refl}
-use mathlib.Core.Bool.{Bool, true, false, not, cond, ◌&&◌}
-use mathlib.Core.List.{List}
-use native.Mathlib.Omega.{arith}
-use borrow.Author.Tests.{eq-eqb, ne_eqb}
-use lib.ListN.{length}
+use Rattle.std.proofs.Common.{ℕ, ◌-◌, ◌≤◌, ◌≡◌, refl, Bool, true, false, not, cond, ◌&&◌, List, arith, eq-eqb, ne_eqb, length}
 use Rattle.cdf_unit_prefix.specs.Layout.{Layout}
 use Rattle.cdf_reader_spec.specs.Place.{ReaderPlace, fits}
 use Rattle.cdf_reader_spec.specs.Calls.{refuse, move_to, untouched, passed, passing, is_group, take_of, part_of}

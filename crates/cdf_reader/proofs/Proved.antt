@@ -1,9 +1,5 @@
 -- The claims of this crate, proved.
-use Prim.Native.Nat.{ℕ, ◌≤◌}
-use mathlib.Core.Path.{◌≡◌, refl}
-use mathlib.Core.List.{List, [], ◌∷◌}
-use native.Mathlib.Omega.{arith}
-use lib.ListN.{length}
+use Rattle.std.proofs.Common.{ℕ, ◌≤◌, ◌≡◌, refl, List, [], ◌∷◌, arith, length}
 use Rattle.cdf_reader_spec.specs.Place.{ReaderPlace}
 use Rattle.cdf_reader_spec.specs.Slots.{no_open, held_of, open_units, open_ranks}
 use Rattle.cdf_reader_advance.proofs.Steady.{advances_by}
@@ -48,11 +44,7 @@ viewed p few each w =
     let k = slots_of Word 0 (omega arith) p.ranks count each few w.ranks in (
       record {
         position = p.position;
-        count = count;
-        top = u.top;
-        o1 = u.x1;
-        o2 = u.x2;
-        o3 = u.x3;
+        units = record { count = count; top = u.top; o1 = u.x1; o2 = u.x2; o3 = u.x3 };
         last = p.last;
         fresh = p.fresh;
         ranks = record { top = k.top; r1 = k.x1; r2 = k.x2; r3 = k.x3; last = p.last_rank };

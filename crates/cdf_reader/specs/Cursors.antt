@@ -7,11 +7,7 @@ use Rattle.cdf_reader.specs.declared.Answer.{Answer}
 abbrev pub cursor_of : Place → Cursor
 cursor_of p = record {
   position = p.position;
-  count = p.count;
-  top = p.top;
-  o1 = p.o1;
-  o2 = p.o2;
-  o3 = p.o3;
+  units = p.units;
   last = p.last;
   fresh = p.fresh;
   ranks = p.ranks;
@@ -20,15 +16,11 @@ cursor_of p = record {
 abbrev pub place_with : Cursor → Place
 place_with c = record {
   position = c.position;
-  count = c.count;
-  top = c.top;
-  o1 = c.o1;
-  o2 = c.o2;
-  o3 = c.o3;
+  units = c.units;
   last = c.last;
   fresh = c.fresh;
   ranks = c.ranks;
 }
 
 abbrev pub answer_of : Outcome → Answer
-answer_of o = record { number = o.number; offset = o.offset; handed = o.handed; place = place_with o.cursor }
+answer_of o = record { handed = o.handed; place = place_with o.cursor }

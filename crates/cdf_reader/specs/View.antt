@@ -1,17 +1,24 @@
--- Which place of document 01 a struct is, and which reply an answer; the struct and the answer that hold only zeros.
-use Rattle.std.specs.Prelude.{ℕ, false, List, take, drop}
+-- Which place of document 01 a struct is, and which reply an answer or a refusal; the struct that holds only zeros.
+use Rattle.std.specs.Prelude.{ℕ, false, List, take, drop, Result, Ok, Err}
+use Rattle.cdf_refusal.specs.Numbers.{number_of}
+use Rattle.cdf_refusal.specs.declared.Fault.{Fault}
 use Rattle.cdf_unit_prefix.specs.Layout.{layout_for}
 use Rattle.cdf_reader_spec.specs.Place.{ReaderPlace}
-use Rattle.cdf_reader_spec.specs.Calls.{Reply, Part, no_unit, part_of}
-use Rattle.cdf_reader_spec.specs.Slots.{no_open, no_ranks, place_of}
+use Rattle.cdf_reader_spec.specs.Calls.{Reply, Part, refuse, no_unit, part_of}
+use Rattle.cdf_reader_spec.specs.Slots.{no_units, no_ranks, place_of}
 use Rattle.cdf_reader.specs.declared.Place.{Place}
 use Rattle.cdf_reader.specs.declared.Answer.{Answer}
 
 abbrev pub view : Place → ReaderPlace
-view p = place_of p.position p.count p.top p.o1 p.o2 p.o3 p.last p.fresh p.ranks
+view p = place_of p.position p.units.count p.units.top p.units.o1 p.units.o2 p.units.o3 p.last p.fresh p.ranks
 
 abbrev pub reply_of : Answer → Reply
-reply_of a = record { number = a.number; offset = a.offset; handed = a.handed; place = view a.place }
+reply_of a = record { number = 0; offset = 0; handed = a.handed; place = view a.place }
+
+-- A refusal goes with the place that is given here: for a start the empty one, for a call the one that it was given.
+abbrev pub reply_from : Place → Result Answer Fault → Reply
+reply_from p (Ok a) = reply_of a
+reply_from p (Err f) = refuse (number_of f.refusal) f.offset (view p)
 
 -- The part of the bytes that GET_STREAM lends from a place, and the bytes of a part.
 abbrev pub part_at : Place → List ℕ → Part
@@ -24,11 +31,7 @@ bytes_of part s = take part.size (drop part.start s)
 abbrev pub no_place : Place
 no_place = record {
   position = 0;
-  count = 0;
-  top = no_open;
-  o1 = no_open;
-  o2 = no_open;
-  o3 = no_open;
+  units = no_units;
   last = no_unit;
   fresh = false;
   ranks = no_ranks;

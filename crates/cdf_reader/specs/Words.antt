@@ -33,10 +33,10 @@ pub record PlaceWords (p : ReaderPlace) : Type 0 where
 
 pub record StructWords (q : Place) : Type 0 where
   pub position : Word q.position
-  pub count : Word q.count
-  pub top : OpenWords q.top
-  pub o1 : OpenWords q.o1
-  pub o2 : OpenWords q.o2
-  pub o3 : OpenWords q.o3
+  pub count : Word q.units.count
+  pub top : OpenWords q.units.top
+  pub o1 : OpenWords q.units.o1
+  pub o2 : OpenWords q.units.o2
+  pub o3 : OpenWords q.units.o3
   pub last : UnitWords q.last
   pub ranks : RanksWords q.ranks

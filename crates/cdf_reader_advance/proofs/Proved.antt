@@ -1,18 +1,10 @@
 -- The claims of this crate, proved.
-use Prim.Native.Nat.{ℕ, suc, ◌-◌, ◌≤◌, ◌<◌}
-use mathlib.Core.Path.{◌≡◌, refl, sym, ◌∙◌}
-use mathlib.Core.Bool.{Bool, true, false, cond, ◌&&◌, ◌||◌, false≢true}
-use mathlib.Core.List.{List, [], ◌∷◌}
-use mathlib.Core.Logic.{◌⊎◌, inl, inr, ⊎_elim}
-use native.Mathlib.Omega.{arith}
-use borrow.Author.Tests.{eqb-false, ltb-false, leb-false, ne_eqb, le-ltb, lt-leb}
-use lib.Dec.{eqb, leb, ltb}
-use lib.ListN.{length, take, drop}
+use Rattle.std.proofs.Common.{ℕ, suc, ◌-◌, ◌≤◌, ◌<◌, ◌≡◌, refl, sym, ◌∙◌, Bool, true, false, cond, ◌&&◌, ◌||◌, List, [], ◌∷◌, ◌⊎◌, inl, inr, ⊎_elim}
+use Rattle.std.proofs.Common.{arith, ltb-false, leb-false, ne_eqb, le-ltb, eqb, leb, ltb, length, take, drop}
+use Rattle.std.proofs.lemmas.Bool.{false≢true, eqb-false, lt-leb}
 use Rattle.cdf_unit_prefix.specs.Layout.{Layout}
 use Rattle.cdf_unit_data.specs.Data.{NameBytes}
-use Rattle.cdf_unit_judge.specs.Judge.{judge_in}
-use Rattle.cdf_unit_judge.specs.declared.Judged.{Judged}
-use Rattle.cdf_unit_judge.specs.declared.Judged.TheVariants.{Fault, Found}
+use Rattle.cdf_unit_judge.specs.Judge.{judge_in, Judged, Fault, Found}
 use Rattle.cdf_unit_judge.proofs.Faults.{told_by}
 use Rattle.cdf_unit_list.specs.Stack.{Closing, incomplete, left, close, Step, done, refused, found, entered, with_state, step_in_by, step_by}
 use Rattle.cdf_unit_list.specs.declared.Open.{Open}

@@ -1,22 +1,14 @@
 -- At a place that fits a step can be done, so it is NEXT.
-use Prim.Native.Nat.{ℕ, suc, ◌+◌, ◌-◌, ◌≤◌}
-use mathlib.Core.Path.{◌≡◌, refl, sym, ap, ◌∙◌}
-use mathlib.Core.Bool.{Bool, true, false, cond, ◌&&◌, ◌||◌}
-use mathlib.Core.List.{List, [], ◌∷◌, ◌++◌}
-use native.Mathlib.Omega.{arith}
-use native.Mathlib.Nat.{mul-add}
-use borrow.Author.Tests.{eqb-true, eqb-false, le-leb, lt-ltb}
-use lib.Dec.{eqb}
-use lib.ListN.{length, take, drop}
+use Rattle.std.proofs.Common.{ℕ, suc, ◌+◌, ◌-◌, ◌≤◌, ◌≡◌, refl, sym, ap, ◌∙◌, Bool, true, false, cond, ◌&&◌, ◌||◌, List, [], ◌∷◌, ◌++◌, arith}
+use Rattle.std.proofs.Common.{mul-add, eqb-true, le-leb, lt-ltb, eqb, length, take, drop}
+use Rattle.std.proofs.lemmas.Bool.{eqb-false}
 use Rattle.cdf_unit_table.specs.States.{opens}
 use Rattle.cdf_unit_table.proofs.Heights.{falls, opens_lower}
 use Rattle.cdf_unit_prefix.specs.Layout.{Layout, prefix_of}
 use Rattle.cdf_unit_data.specs.Data.{name_bytes}
 use Rattle.cdf_unit_data.specs.Standing.{name_row, row_bytes}
 use Rattle.cdf_unit_data.proofs.Standing.{row_is}
-use Rattle.cdf_unit_judge.specs.Judge.{judge_of}
-use Rattle.cdf_unit_judge.specs.declared.Judged.{Judged}
-use Rattle.cdf_unit_judge.specs.declared.Judged.TheVariants.{Fault, Found}
+use Rattle.cdf_unit_judge.specs.Judge.{judge_of, Judged, Fault, Found}
 use Rattle.cdf_unit_judge.proofs.Placed.{placed}
 use Rattle.cdf_unit_list.specs.Stack.{close, entered, with_state, step_in_by, step, step_by}
 use Rattle.cdf_unit_list.specs.declared.Open.{Open}

@@ -1,19 +1,12 @@
 -- What a step by any judge comes to from any cursor, once the units that end at the position are closed.
-use Prim.Native.Nat.{ℕ, zero, suc, ◌+◌, ◌-◌, ◌≤◌, ◌<◌}
-use mathlib.Core.Path.{◌≡◌, refl, sym, ap, subst, ◌∙◌}
-use mathlib.Core.Bool.{Bool, true, false, cond, ◌&&◌, false≢true}
-use mathlib.Core.List.{List, []}
-use native.Mathlib.Omega.{arith}
-use borrow.Author.Tests.{eq-eqb, ne_eqb, leb-true, ltb-true}
-use lib.Dec.{leb, ltb}
-use lib.ListN.{length, take, drop, length-take}
+use Rattle.std.proofs.Common.{ℕ, zero, suc, ◌+◌, ◌-◌, ◌≤◌, ◌<◌, ◌≡◌, refl, sym, ap, ◌∙◌, Bool, true, false, cond, ◌&&◌, List, [], arith, eq-eqb}
+use Rattle.std.proofs.Common.{ne_eqb, leb-true, ltb-true, leb, ltb, length, take, drop}
+use Rattle.std.proofs.lemmas.Bool.{false≢true}
 use Rattle.cdf_unit_table.specs.States.{opens}
 use Rattle.cdf_unit_table.proofs.Bools.{both}
 use Rattle.cdf_unit_prefix.specs.Layout.{Layout}
 use Rattle.cdf_unit_data.specs.Data.{NameBytes}
-use Rattle.cdf_unit_judge.specs.declared.Judged.{Judged}
-use Rattle.cdf_unit_judge.specs.declared.Judged.TheVariants.{Fault, Found}
-use Rattle.cdf_unit_judge.proofs.Keeping.{Lies, Keeps}
+use Rattle.cdf_unit_judge.specs.Judge.{Judged, Fault, Found}
 use Rattle.cdf_unit_list.specs.Stack.{close, Step, done, refused, found, opened, entered, with_state, step_in_with, step_with, step_in_by, step_by}
 use Rattle.cdf_unit_list.specs.Units.{after}
 use Rattle.cdf_unit_list.specs.declared.Unit.{Unit}
@@ -29,10 +22,9 @@ use Rattle.cdf_reader_spec.specs.Ranking.{next_rank}
 use Rattle.cdf_reader_spec.specs.Calls.{refuse, stepped}
 use Rattle.cdf_reader_close.proofs.Levels.{left-ranks}
 use Rattle.cdf_reader_close.proofs.Unclosed.{close_unclosed, stops}
-use Rattle.cdf_reader_cursor.specs.Outcomes.{cursor_place, outcome_reply, refusal}
+use Rattle.cdf_reader_cursor.specs.Outcomes.{cursor_place, outcome_reply}
 use Rattle.cdf_reader_cursor.specs.Entering.{entering}
 use Rattle.cdf_reader_cursor.specs.declared.Cursor.{Cursor}
-use Rattle.cdf_reader_cursor.specs.declared.Outcome.{Outcome}
 use Rattle.cdf_reader_cursor.proofs.Entered.{steps}
 use Rattle.cdf_reader_advance.specs.Advancing.{no_step, is_inside, has_bytes, rank_on, has_room, advanced_with, advanced_by}
 use Rattle.cdf_reader_advance.proofs.Standing.{Leaves, Following, few}
@@ -52,12 +44,6 @@ pub advanced_is : (w : NameBytes) (l : Layout) (s : List ℕ) (p : ReaderPlace) 
     (stepped p (step_by w l s p.units p.position)) (refuse no_step 0 p)
 unfolding advanced_with step_by step_in_by
 advanced_is w l s p = refl
-
--- A refusal, as the code gives it: the cursor stays.
-pub refuses : (judge : ℕ → List ℕ → Judged) (s : List ℕ) (p : Cursor) (n at : ℕ) (r : Outcome) → r ≡ refusal n at p →
-    advanced_with judge s (cursor_place p) ≡ refuse n at (cursor_place p) →
-    (outcome_reply r ≡ advanced_with judge s (cursor_place p)) × ((r.number ≡ 0 → ⊥) → r.cursor ≡ p)
-refuses judge s p n at r is due = (ap outcome_reply is ∙ sym due, λ some. ap (λ (r : Outcome). r.cursor) is)
 
 -- How many units are open behind a unit that is found.
 pub length_opened : (u : Unit) (os : List Open) → length (opened u os) ≡ cond (opens u.id) (suc (length os)) (length os)
@@ -82,9 +68,9 @@ module _ (judge : ℕ → List ℕ → Judged) (s : List ℕ) (p : Cursor) where
 
   -- These are left open, with `top` the innermost.
   module _ (count : ℕ) (top : Open)
-      (is : open_units count top p.o1 p.o2 p.o3 ≡ unclosed v.units p.position) where
+      (is : open_units count top p.units.o1 p.units.o2 p.units.o3 ≡ unclosed v.units p.position) where
     abbrev Left : List Open
-    Left = open_units count top p.o1 p.o2 p.o3
+    Left = open_units count top p.units.o1 p.units.o2 p.units.o3
 
     abbrev Next : Step
     Next = step_with judge s v.units p.position
@@ -94,7 +80,7 @@ module _ (judge : ℕ → List ℕ → Judged) (s : List ℕ) (p : Cursor) where
     by_close = rw (close_unclosed p.position v.units, ← is)
 
     pub leaves : Leaves p count
-    leaves = sym (length_open count top p.o1 p.o2 p.o3) ∙ ap length is
+    leaves = sym (length_open count top p.units.o1 p.units.o2 p.units.o3) ∙ ap length is
 
     by_left : (os : List Open) → Left ≡ os → (x : Step) → Next ≡ x →
         advanced_with judge s v ≡ cond (has_bytes (length s) p.position os && has_room v x) (stepped v x) (refuse no_step 0 v)
@@ -105,13 +91,13 @@ module _ (judge : ℕ → List ℕ → Judged) (s : List ℕ) (p : Cursor) where
     at_end_lem none = by_left [] (rw none) done (by_close ∙ rw none)
 
     module _ (some : count ≡ 0 → ⊥) where
-      some_open : 1 ≤ p.count
+      some_open : 1 ≤ p.units.count
       some_open = omega (arith, few p count leaves, some)
 
       pub at_incomplete : top.end ≡ p.position → advanced_with judge s v ≡ refuse 10 top.start v
       unfolding step_in_with close has_bytes has_room stepped
       at_incomplete e =
-          let w = split count top p.o1 p.o2 p.o3 some in
+          let w = split count top p.units.o1 p.units.o2 p.units.o3 some in
           by_left _ w.1 (refused 10 top.start)
           (by_close ∙ rw (w.1, eq-eqb top.end p.position e, stops p.position v.units top w.0 (sym is ∙ w.1) e))
           ∙ rw (eq-eqb top.end p.position e)
@@ -124,13 +110,13 @@ module _ (judge : ℕ → List ℕ → Judged) (s : List ℕ) (p : Cursor) where
         abbrev Inside : Bool
         Inside = is_inside (length s) p.position top
 
-        inside : Next ≡ entered p.position (λ state. open_units count (with_state top state) p.o1 p.o2 p.o3) (judge top.state Rest)
-        inside = by_close ∙ step_open judge s p.position count top p.o1 p.o2 p.o3 some apart
+        inside : Next ≡ entered p.position (λ state. open_units count (with_state top state) p.units.o1 p.units.o2 p.units.o3) (judge top.state Rest)
+        inside = by_close ∙ step_open judge s p.position count top p.units.o1 p.units.o2 p.units.o3 some apart
 
         by_bytes : (x : Step) → Next ≡ x → advanced_with judge s v ≡ cond (Inside && has_room v x) (stepped v x) (refuse no_step 0 v)
         unfolding has_bytes
         by_bytes x f =
-            by_left _ (split count top p.o1 p.o2 p.o3 some).1 x f ∙ rw (ne_eqb top.end p.position apart)
+            by_left _ (split count top p.units.o1 p.units.o2 p.units.o3 some).1 x f ∙ rw (ne_eqb top.end p.position apart)
 
         pub outside : Inside ≡ false → advanced_with judge s v ≡ refuse no_step 0 v
         outside e = by_bytes Next refl ∙ rw e
@@ -142,16 +128,6 @@ module _ (judge : ℕ → List ℕ → Judged) (s : List ℕ) (p : Cursor) where
               let b = both (ltb p.position top.end) (leb top.end (length s)) a.1 in
               (ltb-true top.start p.position a.0, ltb-true p.position top.end b.0, leb-true top.end (length s) b.1)
 
-          -- What a judge finds that keeps in its part lies in the bytes.
-          pub unit_within : Keeps judge → {id action own len state : ℕ} → judge top.state Rest ≡ Found id action own len state →
-              (own ≤ len) × (p.position + len ≤ length s)
-          unit_within keeps e =
-              omega (arith, subst (Lies (length Rest)) e (keeps top.state Rest), within, length-take (top.end - p.position) (drop p.position s))
-
-          pub fault_within : Keeps judge → {n k : ℕ} → judge top.state Rest ≡ Fault n k → p.position + k ≤ length s
-          fault_within keeps e =
-              omega (arith, subst (Lies (length Rest)) e (keeps top.state Rest), within, length-take (top.end - p.position) (drop p.position s))
-
           pub inside_fault : {n k : ℕ} → judge top.state Rest ≡ Fault n k → advanced_with judge s v ≡ refuse n (p.position + k) v
           unfolding has_room stepped
           inside_fault {n} {k} j = by_bytes (refused n (p.position + k)) (inside ∙ rw j (faults _ _ _ _)) ∙ rw lies
@@ -161,7 +137,7 @@ module _ (judge : ℕ → List ℕ → Judged) (s : List ℕ) (p : Cursor) where
             Unit' = unit_from p.position id action own len
 
             abbrev Then : List Open
-            Then = open_units count (with_state top state) p.o1 p.o2 p.o3
+            Then = open_units count (with_state top state) p.units.o1 p.units.o2 p.units.o3
 
             abbrev Found' : Step
             Found' = found Unit' (opened Unit' Then) (after Unit')
@@ -174,7 +150,7 @@ module _ (judge : ℕ → List ℕ → Judged) (s : List ℕ) (p : Cursor) where
               room_is : has_room v Found' ≡ Room
               unfolding has_room
               room_is =
-                  rw (← follow, length_opened Unit' Then, length_open count (with_state top state) p.o1 p.o2 p.o3)
+                  rw (← follow, length_opened Unit' Then, length_open count (with_state top state) p.units.o1 p.units.o2 p.units.o3)
 
               by_room : advanced_with judge s v ≡ cond Room (stepped v Found') (refuse no_step 0 v)
               by_room = by_bytes Found' (inside ∙ rw j (enters _ _ _ _ _ _ _)) ∙ rw (lies, room_is)
@@ -210,7 +186,7 @@ module _ (judge : ℕ → List ℕ → Judged) (s : List ℕ) (p : Cursor) where
                 enters_found depth rank deep next =
                     steps v p count top _ state (omega arith) slots.0
                     (record {
-                      left = left-ranks p.position p.count p.top p.o1 p.o2 p.o3 p.ranks count leaves;
+                      left = left-ranks p.position p.units.count p.units.top p.units.o1 p.units.o2 p.units.o3 p.ranks count leaves;
                       next = sym next;
                       deep = deep;
                       apart = apart_start;

@@ -3,8 +3,7 @@
 use Rattle.std.specs.Prelude.{ℕ, suc, Bool, true, false, cond, ◌&&◌, ◌||◌, List, [], ◌∷◌, leb, ltb, eqb, length}
 use Rattle.cdf_unit_prefix.specs.Layout.{Layout}
 use Rattle.cdf_unit_data.specs.Data.{NameBytes, name_bytes}
-use Rattle.cdf_unit_judge.specs.Judge.{judge_in}
-use Rattle.cdf_unit_judge.specs.declared.Judged.{Judged}
+use Rattle.cdf_unit_judge.specs.Judge.{judge_in, Judged}
 use Rattle.cdf_unit_list.specs.Stack.{Step, done, refused, found, step_with}
 use Rattle.cdf_unit_list.specs.declared.Open.{Open}
 use Rattle.cdf_reader_spec.specs.Place.{ReaderPlace}

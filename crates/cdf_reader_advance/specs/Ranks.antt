@@ -5,7 +5,7 @@ use Rattle.cdf_reader_cursor.specs.declared.Cursor.{Cursor}
 
 -- Of the outermost unit that closes, else of the last one.
 abbrev pub rank_before : Cursor → ℕ → ℕ
-rank_before c left = cond (leb c.count left) c.ranks.last (rank_at (suc left) c.count c.ranks)
+rank_before c left = cond (leb c.units.count left) c.ranks.last (rank_at (suc left) c.units.count c.ranks)
 
 -- The highest that a field can hold: none comes after it.
 abbrev pub highest : ℕ
@@ -15,4 +15,4 @@ highest = 18446744073709551615
 abbrev pub rank_from : Cursor → ℕ → ℕ → ℕ
 rank_from c left before =
     cond (eqb before highest) highest
-    (cond (ltb left c.count) (suc before) (cond (eqb c.last.start c.top.start) 0 (suc before)))
+    (cond (ltb left c.units.count) (suc before) (cond (eqb c.last.start c.units.top.start) 0 (suc before)))

@@ -1,5 +1,5 @@
 // A step at any cursor, as it is defined, and its tests and ranks: what NEXT does, without the test whether the place fits; where it cannot be
-// done, a number of its own. The step itself stands in `cdf_reader_advance_by`.
+// done, a refusal of its own. The step itself stands in `cdf_reader_advance_by`.
 #![tactic(auto)]
 
 ghost use Rattle.std.specs.Prelude.{◌≡◌, cond, ◌&&◌, suc, leb, ltb};
@@ -12,9 +12,6 @@ use cdf_reader_cursor::Cursor;
 use cdf_unit_list::Open;
 use cdf_unit_table::first_state;
 
-// No rank comes after this one.
-const HIGHEST: usize = 18446744073709551615;
-
 // Whether the position lies inside a unit, and the unit in n bytes: what is left of the unit is then a part of them.
 pub fn is_inside(o: Open, at: usize, n: usize) -> bool
     ensures { result ≡ is_inside n at o }
@@ -26,39 +23,32 @@ pub fn is_inside(o: Open, at: usize, n: usize) -> bool
 pub fn has_room(left: usize, id: usize, before: usize, at: usize) -> bool
     ensures { result ≡ (leb (cond (opens id) (suc left) left) 4 && ltb before at) }
 {
-    let first = first_state(id);
-    if first == 0 {
-        return (left <= 4) & (before < at);
+    match first_state(id) {
+        Some(_) => (left < 4) & (before < at),
+        None => (left <= 4) & (before < at),
     }
-    (left < 4) & (before < at)
 }
 
 // The rank before the next unit's, where so many units are left: of the outermost that closes, else of the last one.
 pub fn rank_before(c: Cursor, left: usize) -> usize
     ensures { result ≡ rank_before c left }
 {
-    let ranks = c.ranks;
-    if c.count <= left {
-        return ranks.last;
+    if c.units.count <= left {
+        return c.ranks.last;
     }
-    let level = left + 1;
-    rank_at(level, c.count, ranks)
+    rank_at(left + 1, c.units.count, c.ranks)
 }
 
 // How the unit at the position ranks: after the outermost unit that closes there, else in the last unit, if that is the innermost by its
-// start, and else after it.
+// start, and else after it. No rank comes after the highest.
 pub fn next_rank(c: Cursor, left: usize, before: usize) -> usize
     ensures { result ≡ rank_from c left before }
 {
-    if before == HIGHEST {
-        return HIGHEST;
+    if before == usize::MAX {
+        return before;
     }
-    let after = before + 1;
-    if left < c.count {
-        return after;
-    }
-    if c.last.start == c.top.start {
+    if (c.units.count <= left) && (c.last.start == c.units.top.start) {
         return 0;
     }
-    after
+    before + 1
 }

@@ -1,94 +1,76 @@
 // The reader's calls on plain numbers, as they cross to C: a place is 25 of them and an answer 10.
 #![tactic(auto)]
 
-ghost use Rattle.std.specs.Prelude.{◌≡◌, true, ◌≤◌};
-ghost use Rattle.cdf_reader.specs.View.{reply_of};
+ghost use Rattle.std.specs.Prelude.{◌≡◌};
+ghost use Rattle.cdf_reader_spec.specs.Calls.{empty_place};
 ghost use Rattle.cdf_reader_numbers.specs.Numbers.{answer_numbers, keeps, Called};
-ghost use Rattle.cdf_reader_numbers.specs.Taking.{is_take, part_by};
+ghost use Rattle.cdf_reader_numbers.specs.Taking.{part_is};
+ghost use Rattle.cdf_reader_call_numbers.specs.Telling.{Tells};
 
-use cdf_reader::Answer;
-use cdf_reader_numbers::{place_from, write_place};
+use cdf_reader::{Answer, is_start};
+use cdf_reader_numbers::{Part, place_from, write_place};
 use cdf_reader_spec::Call;
+use cdf_refusal::Fault;
+use cdf_unit_list::{Ranked, Unit};
 
-// A part of the stream.
-#[derive(Clone, Copy)]
-struct Span {
-    start: usize,
-    size: usize,
-}
-
-// Writes the numbers of an answer.
-fn write_answer(r: Answer, part: Span, a: &mut [u64; 10])
-    ensures { a.new ≡ answer_numbers (reply_of r) (record { start = part.start; size = part.size }) }
+// Writes the numbers of an answer, among which are neither the call's number nor the place.
+pub fn write_answer(offset: usize, handed: Ranked, part: Part, a: &mut [u64; 10])
+    ensures { a.new ≡ answer_numbers (record { number = 0; offset = offset; handed = handed; place = empty_place }) (part_is part) }
 {
     *a = [
-        r.offset as u64,
-        r.handed.unit.id as u64,
-        r.handed.unit.action as u64,
-        r.handed.unit.start as u64,
-        r.handed.unit.own as u64,
-        r.handed.unit.end as u64,
+        offset as u64,
+        handed.unit.id as u64,
+        handed.unit.action as u64,
+        handed.unit.start as u64,
+        handed.unit.own as u64,
+        handed.unit.end as u64,
         part.start as u64,
         part.size as u64,
-        r.handed.depth as u64,
-        r.handed.rank as u64,
+        handed.depth as u64,
+        handed.rank as u64,
     ];
 }
 
-fn is_take(call: Call) -> bool
-    ensures { result ≡ is_take call }
+// Whether a call that is not refused leaves the place's numbers as they were.
+fn is_kept(call: Call) -> bool
+    ensures { result ≡ keeps call 0 }
 {
-    match call {
-        Call::Start => false,
-        Call::Next => false,
-        Call::Skip => false,
-        Call::GetStream => true,
-        Call::Previous => false,
+    matches!(call, Call::Previous)
+}
+
+// What a call came to at the place that the numbers are, `last` the last unit there: the number; the answer's numbers are written always, the
+// place's unless they are kept.
+pub fn tell(
+    call: Call,
+    told: Result<Answer, Fault>,
+    last: Unit,
+    place: &mut [u64; 25],
+    answer: &mut [u64; 10],
+) -> u64
+    ensures { Tells call told last place.old result place.new answer.new }
+{
+    match told {
+        Ok(a) => {
+            write_answer(0, a.handed, Part::of(call, 0, last), answer);
+            if !is_kept(call) {
+                write_place(a.place, place);
+            }
+            0
+        }
+        Err(fault) => {
+            write_answer(fault.offset, Ranked::default(), Part::default(), answer);
+            if is_start(call) {
+                *place = [0; 25];
+            }
+            fault.refusal.number() as u64
+        }
     }
 }
 
-// The part that goes with a call and its number, with the last unit's start and end.
-fn part_by(call: Call, number: usize, start: usize, end: usize) -> Span
-    requires { is_take call ≡ true → number ≡ 0 → start ≤ end }
-    ensures { record { start = result.start; size = result.size } ≡ part_by call number start end }
-{
-    if !is_take(call) {
-        return Span { start: 0, size: 0 };
-    }
-    if number != 0 {
-        return Span { start: 0, size: 0 };
-    }
-    Span {
-        start,
-        size: end - start,
-    }
-}
-
-// Whether the place's numbers stay as they were.
-fn is_kept(call: Call, number: usize) -> bool
-    ensures { result ≡ keeps call number }
-{
-    match call {
-        Call::Start => false,
-        Call::Next => number != 0,
-        Call::Skip => number != 0,
-        Call::GetStream => number != 0,
-        Call::Previous => true,
-    }
-}
-
-// Any call: the number; the answer's numbers are written always, the place's unless they are kept.
+// Any call.
 pub fn answer_to(call: Call, s: &[u8], place: &mut [u64; 25], answer: &mut [u64; 10]) -> u64
     ensures { Called call s.now place.old result place.new answer.new }
 {
     let p = place_from(place);
-    let a = p.call(call, s);
-    let part = part_by(call, a.number, p.last.start, p.last.end);
-    write_answer(a, part, answer);
-    if is_kept(call, a.number) {
-        return a.number as u64;
-    }
-    let q = a.place;
-    write_place(q, place);
-    a.number as u64
+    tell(call, p.call(call, s), p.last, place, answer)
 }

@@ -1,12 +1,5 @@
 -- The units that closing leaves: they are what is left of all, and the innermost of them is incomplete if it ends there.
-use Prim.Native.Nat.{ℕ}
-use mathlib.Core.Path.{◌≡◌, refl, sym, ap, ◌∙◌}
-use mathlib.Core.Bool.{Bool, true, false, cond, ◌&&◌, true≢false}
-use mathlib.Core.List.{List, [], ◌∷◌, ◌++◌}
-use native.Mathlib.Omega.{arith}
-use borrow.Author.Tests.{eq-eqb}
-use lib.Dec.{eqb}
-use lib.ListN.{length}
+use Rattle.std.proofs.Common.{ℕ, ◌≡◌, refl, sym, ap, ◌∙◌, Bool, true, false, cond, ◌&&◌, true≢false, List, [], ◌∷◌, ◌++◌, arith, eq-eqb, eqb, length}
 use Rattle.cdf_unit_table.specs.States.{complete}
 use Rattle.cdf_unit_list.specs.Stack.{incomplete, left, close}
 use Rattle.cdf_unit_list.specs.declared.Open.{Open}

@@ -1,9 +1,5 @@
 -- The last unit of a cursor's place as it is handed out.
-use Prim.Native.Nat.{ℕ, zero, suc, ◌≤◌}
-use mathlib.Core.Path.{◌≡◌, refl, ap}
-use mathlib.Core.Bool.{cond}
-use native.Mathlib.Omega.{arith}
-use lib.Dec.{eqb}
+use Rattle.std.proofs.Common.{ℕ, zero, suc, ◌≤◌, ◌≡◌, refl, ap, cond, arith, eqb}
 use Rattle.cdf_unit_list.specs.declared.Open.{Open}
 use Rattle.cdf_unit_list.specs.declared.Ranked.{Ranked}
 use Rattle.cdf_reader_spec.specs.Ranking.{innermost_at, depth_at, handed_at}
@@ -19,12 +15,12 @@ innermost zero top o1 o2 o3 start some = absurd (omega arith)
 innermost (suc k) top o1 o2 o3 start some = refl
 
 -- Its depth, where a unit is open: by the innermost one's start.
-pub depth_is : (c : Cursor) → 1 ≤ c.count → depth_at (cursor_place c) ≡ cond (eqb c.top.start c.last.start) c.count (suc c.count)
+pub depth_is : (c : Cursor) → 1 ≤ c.units.count → depth_at (cursor_place c) ≡ cond (eqb c.units.top.start c.last.start) c.units.count (suc c.units.count)
 unfolding depth_at
 depth_is c some =
     rw (
-      innermost c.count c.top c.o1 c.o2 c.o3 c.last.start some,
-      length_open c.count c.top c.o1 c.o2 c.o3,
+      innermost c.units.count c.units.top c.units.o1 c.units.o2 c.units.o3 c.last.start some,
+      length_open c.units.count c.units.top c.units.o1 c.units.o2 c.units.o3,
     )
 
 -- With its depth and rank it is what the place gives.

@@ -1,10 +1,5 @@
 -- The outcome that hands out a unit is what a step comes to.
-use Prim.Native.Nat.{ℕ, zero, suc, ◌≤◌}
-use mathlib.Core.Path.{◌≡◌, refl, sym, ◌∙◌}
-use mathlib.Core.Bool.{Bool, true, false, cond}
-use mathlib.Core.List.{◌∷◌}
-use native.Mathlib.Omega.{arith}
-use borrow.Author.Tests.{eq-eqb, ne_eqb}
+use Rattle.std.proofs.Common.{ℕ, zero, suc, ◌≤◌, ◌≡◌, refl, sym, ◌∙◌, Bool, true, false, cond, ◌∷◌, arith, eq-eqb, ne_eqb}
 use Rattle.cdf_unit_table.specs.States.{nothing, opens}
 use Rattle.cdf_unit_table.proofs.Rows.{opens_by, leaf_by}
 use Rattle.cdf_unit_list.specs.Units.{after}
@@ -57,10 +52,10 @@ pub record Ranking (v : ReaderPlace) (c : Cursor) (count : ℕ) (top : Open) (h 
 -- `outer` is the unit that encloses it, in its new state.
 module _ (v : ReaderPlace) (c : Cursor) (h : Ranked) (outer : Open) where
   abbrev Due : ℕ → Reply
-  Due count = stepped v (found h.unit (opened h.unit (open_units count outer c.o1 c.o2 c.o3)) (after h.unit))
+  Due count = stepped v (found h.unit (opened h.unit (open_units count outer c.units.o1 c.units.o2 c.units.o3)) (after h.unit))
 
   abbrev Place : ℕ → ReaderPlace
-  Place count = place_at v h.unit (opened h.unit (open_units count outer c.o1 c.o2 c.o3)) (after h.unit)
+  Place count = place_at v h.unit (opened h.unit (open_units count outer c.units.o1 c.units.o2 c.units.o3)) (after h.unit)
 
   -- The place is the one due, and the unit as deep there as it is said to be.
   gives : (count : ℕ) (q : Cursor) → cursor_place q ≡ Place count → depth_at (cursor_place q) ≡ h.depth → q.last ≡ h.unit →
@@ -71,7 +66,7 @@ module _ (v : ReaderPlace) (c : Cursor) (h : Ranked) (outer : Open) where
     leaf_place : opens h.unit.id ≡ false → cursor_place (behind c count outer h) ≡ Place count
     unfolding open_ranks
     leaf_place shut =
-        let w = opened_leaf h.unit (open_units count outer c.o1 c.o2 c.o3) shut in
+        let w = opened_leaf h.unit (open_units count outer c.units.o1 c.units.o2 c.units.o3) shut in
         rw (w.0, w.1, shut, k.left, k.next)
 
     leaf : 1 ≤ count → opens h.unit.id ≡ false → outcome_reply (handing h (behind c count outer h)) ≡ Due count
@@ -82,7 +77,7 @@ module _ (v : ReaderPlace) (c : Cursor) (h : Ranked) (outer : Open) where
 
     -- The units then open are the new one and those that were, and so are the ranks.
     module _ (opening : opens h.unit.id ≡ true) (p1 p2 p3 : Open) (r1 r2 r3 : ℕ)
-        (us : open_units (suc count) (fresh h.unit) p1 p2 p3 ≡ fresh h.unit ∷ open_units count outer c.o1 c.o2 c.o3)
+        (us : open_units (suc count) (fresh h.unit) p1 p2 p3 ≡ fresh h.unit ∷ open_units count outer c.units.o1 c.units.o2 c.units.o3)
         (ks : held_of 0 (suc count) h.rank r1 r2 r3
         ≡ h.rank ∷ held_of 0 count (left_rank c count) c.ranks.r1 c.ranks.r2 c.ranks.r3) where
       abbrev In : Cursor
@@ -91,7 +86,7 @@ module _ (v : ReaderPlace) (c : Cursor) (h : Ranked) (outer : Open) where
       pushed_place : cursor_place In ≡ Place count
       unfolding open_ranks
       pushed_place =
-          let w = opened_parent h.unit (open_units count outer c.o1 c.o2 c.o3) opening in
+          let w = opened_parent h.unit (open_units count outer c.units.o1 c.units.o2 c.units.o3) opening in
           rw (us, ks, w.0, w.1, opening, k.left, k.next)
 
       pushed : outcome_reply (handing h In) ≡ Due count
@@ -104,21 +99,21 @@ module _ (v : ReaderPlace) (c : Cursor) (h : Ranked) (outer : Open) where
       outcome_reply (handing h (within c count outer h)) ≡ Due count
   unfolding open_units around held_of
   parent opening zero k some few = absurd (omega arith)
-  parent opening (suc zero) k some few = pushed 1 k opening outer c.o2 c.o3 _ _ _ refl refl
-  parent opening (suc (suc zero)) k some few = pushed 2 k opening c.o1 outer c.o3 _ _ _ refl refl
-  parent opening (suc (suc (suc zero))) k some few = pushed 3 k opening c.o1 c.o2 outer _ _ _ refl refl
+  parent opening (suc zero) k some few = pushed 1 k opening outer c.units.o2 c.units.o3 _ _ _ refl refl
+  parent opening (suc (suc zero)) k some few = pushed 2 k opening c.units.o1 outer c.units.o3 _ _ _ refl refl
+  parent opening (suc (suc (suc zero))) k some few = pushed 3 k opening c.units.o1 c.units.o2 outer _ _ _ refl refl
   parent opening (suc (suc (suc (suc k)))) r some few = absurd (omega arith)
 
 -- Where a unit is open, and one that admits others leaves room for itself.
 pub steps : (v : ReaderPlace) (c : Cursor) (count : ℕ) (top : Open) (h : Ranked) (state : ℕ) → 1 ≤ count →
     (opens h.unit.id ≡ true → count ≤ 3) → Ranking v c count (with_state top state) h →
     outcome_reply (entering c count top h state)
-    ≡ stepped v (found h.unit (opened h.unit (open_units count (with_state top state) c.o1 c.o2 c.o3)) (after h.unit))
+    ≡ stepped v (found h.unit (opened h.unit (open_units count (with_state top state) c.units.o1 c.units.o2 c.units.o3)) (after h.unit))
 unfolding entering
 steps v c count top h state some few k = go (opens h.unit.id) refl
   where
     go : (b : Bool) → opens h.unit.id ≡ b →
         outcome_reply (handing h (cond b (within c count (with_state top state) h) (behind c count (with_state top state) h)))
-        ≡ stepped v (found h.unit (opened h.unit (open_units count (with_state top state) c.o1 c.o2 c.o3)) (after h.unit))
+        ≡ stepped v (found h.unit (opened h.unit (open_units count (with_state top state) c.units.o1 c.units.o2 c.units.o3)) (after h.unit))
     go true e = parent v c h (with_state top state) e count k some (few e)
     go false e = leaf v c h (with_state top state) count k some e

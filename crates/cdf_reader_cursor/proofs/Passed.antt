@@ -1,7 +1,5 @@
 -- The place past the last unit, by the parts of a cursor.
-use Prim.Native.Nat.{ℕ, zero, suc}
-use mathlib.Core.Path.{◌≡◌, refl}
-use mathlib.Core.Bool.{false}
+use Rattle.std.proofs.Common.{ℕ, zero, suc, ◌≡◌, refl, false}
 use Rattle.cdf_unit_table.specs.States.{skipped}
 use Rattle.cdf_unit_list.specs.Stack.{with_state}
 use Rattle.cdf_unit_list.specs.declared.Open.{Open}
@@ -18,6 +16,6 @@ skipped_top_lem (suc k) top o1 o2 o3 = refl
 
 pub passed_is : (c : Cursor) →
     passed (cursor_place c)
-    ≡ place_of c.last.end c.count (with_state c.top (skipped c.top.state)) c.o1 c.o2 c.o3 c.last false c.ranks
+    ≡ place_of c.last.end c.units.count (with_state c.units.top (skipped c.units.top.state)) c.units.o1 c.units.o2 c.units.o3 c.last false c.ranks
 unfolding passed
-passed_is c = rw (skipped_top_lem c.count c.top c.o1 c.o2 c.o3)
+passed_is c = rw (skipped_top_lem c.units.count c.units.top c.units.o1 c.units.o2 c.units.o3)

@@ -12,17 +12,13 @@ use Rattle.cdf_reader_cursor.specs.declared.Outcome.{Outcome}
 
 -- The rank of the innermost of so many units that are left open.
 abbrev pub left_rank : Cursor → ℕ → ℕ
-left_rank c count = rank_at count c.count c.ranks
+left_rank c count = rank_at count c.units.count c.ranks
 
 -- Behind a unit that admits no others: `count` units stay open, `top` the innermost.
 abbrev pub behind : Cursor → ℕ → Open → Ranked → Cursor
 behind c count top h = record {
   position = h.unit.end;
-  count = count;
-  top = top;
-  o1 = c.o1;
-  o2 = c.o2;
-  o3 = c.o3;
+  units = record { count = count; top = top; o1 = c.units.o1; o2 = c.units.o2; o3 = c.units.o3 };
   last = h.unit;
   fresh = false;
   ranks = record { top = left_rank c count; r1 = c.ranks.r1; r2 = c.ranks.r2; r3 = c.ranks.r3; last = h.rank };
@@ -32,11 +28,13 @@ behind c count top h = record {
 abbrev pub inside : Ranked → ℕ → ℕ → Open → Open → Open → ℕ → ℕ → ℕ → Cursor
 inside h state count o1 o2 o3 r1 r2 r3 = record {
   position = h.unit.own;
-  count = count;
-  top = record { state = state; start = h.unit.start; end = h.unit.end };
-  o1 = o1;
-  o2 = o2;
-  o3 = o3;
+  units = record {
+    count = count;
+    top = record { state = state; start = h.unit.start; end = h.unit.end };
+    o1 = o1;
+    o2 = o2;
+    o3 = o3;
+  };
   last = h.unit;
   fresh = true;
   ranks = record { top = h.rank; r1 = r1; r2 = r2; r3 = r3; last = h.rank };
@@ -44,13 +42,13 @@ inside h state count o1 o2 o3 r1 r2 r3 = record {
 
 -- Of 1 unit left open the innermost takes the first slot, of 2 the second, of any other number the third.
 abbrev pub first : Cursor → ℕ → Open → Ranked → Cursor
-first c count top h = inside h (nothing h.unit.id) 2 top c.o2 c.o3 (left_rank c count) c.ranks.r2 c.ranks.r3
+first c count top h = inside h (nothing h.unit.id) 2 top c.units.o2 c.units.o3 (left_rank c count) c.ranks.r2 c.ranks.r3
 
 abbrev pub second : Cursor → ℕ → Open → Ranked → Cursor
-second c count top h = inside h (nothing h.unit.id) 3 c.o1 top c.o3 c.ranks.r1 (left_rank c count) c.ranks.r3
+second c count top h = inside h (nothing h.unit.id) 3 c.units.o1 top c.units.o3 c.ranks.r1 (left_rank c count) c.ranks.r3
 
 abbrev pub third : Cursor → ℕ → Open → Ranked → Cursor
-third c count top h = inside h (nothing h.unit.id) 4 c.o1 c.o2 top c.ranks.r1 c.ranks.r2 (left_rank c count)
+third c count top h = inside h (nothing h.unit.id) 4 c.units.o1 c.units.o2 top c.ranks.r1 c.ranks.r2 (left_rank c count)
 
 abbrev pub within : Cursor → ℕ → Open → Ranked → Cursor
 within c count top h = cond (eqb count 1) (first c count top h) (cond (eqb count 2) (second c count top h) (third c count top h))

@@ -5,107 +5,99 @@ ghost use Rattle.std.specs.Prelude.{◌≡◌};
 ghost use Rattle.cdf_reader_cursor.specs.Outcomes.{handing};
 ghost use Rattle.cdf_reader_cursor.specs.Entering.{inside, entering};
 
+use cdf_open_units::{Left, OpenUnits};
 use cdf_reader_close::rank_at;
-use cdf_reader_cursor::{Cursor, Outcome};
+use cdf_reader_cursor::{Cursor, Outcome, hand_out};
 use cdf_reader_spec::Ranks;
 use cdf_unit_list::{Open, Ranked};
 use cdf_unit_table::first_state;
 
-// Hands out a unit that admits others and is then in its first state, the innermost of so many; these are around it, with their ranks.
-fn inside(
-    handed: Ranked,
-    first: usize,
-    count: usize,
-    o1: Open,
-    o2: Open,
-    o3: Open,
-    r1: usize,
-    r2: usize,
-    r3: usize,
-) -> Outcome
-    ensures { result ≡ handing handed (inside handed first count o1 o2 o3 r1 r2 r3) }
+// Hands out a unit that admits others and is then in its first state: the innermost of these units, whatever stood there, and so of the ranks.
+fn inside(handed: Ranked, first: usize, units: OpenUnits<Open>, ranks: Ranks) -> Outcome
+    ensures { result
+        ≡ handing handed (inside handed first units.count units.o1 units.o2 units.o3 ranks.r1 ranks.r2 ranks.r3) }
 {
     let unit = handed.unit;
-    let inner = Open {
-        state: first,
-        start: unit.start,
-        end: unit.end,
-    };
-    let ranks = Ranks {
-        top: handed.rank,
-        r1,
-        r2,
-        r3,
-        last: handed.rank,
-    };
     let cursor = Cursor {
         position: unit.own,
-        count,
-        top: inner,
-        o1,
-        o2,
-        o3,
+        units: OpenUnits {
+            top: Open {
+                state: first,
+                start: unit.start,
+                end: unit.end,
+            },
+            ..units
+        },
         last: unit,
         fresh: true,
-        ranks,
+        ranks: Ranks {
+            top: handed.rank,
+            last: handed.rank,
+            ..ranks
+        },
     };
-    Outcome {
-        number: 0,
-        offset: 0,
-        handed,
-        cursor,
-    }
+    hand_out(handed, cursor)
 }
 
-// Hands out a unit that stands in the innermost of the `count` units left open, `top`, whose state is then the next. A unit that
-// admits others is opened.
-pub fn enter(c: Cursor, count: usize, top: Open, handed: Ranked, next: usize) -> Outcome
-    ensures { result ≡ entering c count top handed next }
+// Hands out a unit that stands in the innermost of the units left open, whose state is then the next. A unit that admits others is opened.
+pub fn enter(c: Cursor, left: Left<Open>, handed: Ranked, next: usize) -> Outcome
+    ensures { result ≡ entering c left.count left.top handed next }
 {
+    let Left { count, top } = left;
     let unit = handed.unit;
-    let rank = handed.rank;
     let old = c.ranks;
-    let outer = Open {
-        state: next,
-        start: top.start,
-        end: top.end,
-    };
-    let o1 = c.o1;
-    let o2 = c.o2;
-    let o3 = c.o3;
-    let around = rank_at(count, c.count, old);
-    let first = first_state(unit.id);
-    if first == 0 {
-        let ranks = Ranks {
-            top: around,
-            r1: old.r1,
-            r2: old.r2,
-            r3: old.r3,
-            last: rank,
-        };
+    let outer = Open { state: next, ..top };
+    let around = rank_at(count, c.units.count, old);
+    let Some(first) = first_state(unit.id) else {
         let cursor = Cursor {
             position: unit.end,
-            count,
-            top: outer,
-            o1,
-            o2,
-            o3,
+            units: OpenUnits {
+                count,
+                top: outer,
+                ..c.units
+            },
             last: unit,
             fresh: false,
-            ranks,
+            ranks: Ranks {
+                top: around,
+                last: handed.rank,
+                ..old
+            },
+            ..c
         };
-        return Outcome {
-            number: 0,
-            offset: 0,
+        return hand_out(handed, cursor);
+    };
+    let units = c.units;
+    match count {
+        1 => inside(
             handed,
-            cursor,
-        };
+            first,
+            OpenUnits {
+                count: 2,
+                o1: outer,
+                ..units
+            },
+            Ranks { r1: around, ..old },
+        ),
+        2 => inside(
+            handed,
+            first,
+            OpenUnits {
+                count: 3,
+                o2: outer,
+                ..units
+            },
+            Ranks { r2: around, ..old },
+        ),
+        _ => inside(
+            handed,
+            first,
+            OpenUnits {
+                count: 4,
+                o3: outer,
+                ..units
+            },
+            Ranks { r3: around, ..old },
+        ),
     }
-    if count == 1 {
-        return inside(handed, first, 2, outer, o2, o3, around, old.r2, old.r3);
-    }
-    if count == 2 {
-        return inside(handed, first, 3, o1, outer, o3, old.r1, around, old.r3);
-    }
-    inside(handed, first, 4, o1, o2, outer, old.r1, old.r2, around)
 }

@@ -1,11 +1,8 @@
 -- The ranks that a struct holds, tested from the innermost outwards, against a quotient.
-use Prim.Native.Nat.{ℕ, zero, suc, ◌*◌, ◌/◌}
-use mathlib.Core.Path.{◌≡◌, refl, sym}
-use mathlib.Core.Bool.{Bool, true, false, ◌&&◌, ◌||◌, and-true}
-use mathlib.Core.List.{◌∷◌}
-use native.Mathlib.Omega.{arith}
-use borrow.Author.Tests.{le-leb, lt-leb, le-ltb, leb-true, leb-false, ne_eqb}
-use lib.Dec.{leb, ltb}
+use Rattle.std.proofs.Common.{ℕ, zero, suc, ◌*◌, ◌/◌, ◌≡◌, refl, sym, Bool, true, false, ◌&&◌, ◌||◌, ◌∷◌, arith, le-leb, le-ltb, leb-true, leb-false}
+use Rattle.std.proofs.Common.{ne_eqb, leb, ltb}
+use Rattle.std.proofs.lemmas.Bool.{lt-leb}
+use mathlib.Core.Bool.{and-true}
 use Rattle.cdf_unit_prefix.specs.Layout.{layout_of, prefix_of}
 use Rattle.cdf_unit_prefix.specs.declared.Edition.{Edition}
 use Rattle.cdf_unit_prefix.specs.declared.Edition.TheVariants.{First, Second}

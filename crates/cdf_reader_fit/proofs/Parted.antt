@@ -1,12 +1,7 @@
 -- Whether a place fits, by its parts and in the order of the code's tests.
-use Prim.Native.Nat.{ℕ, zero, suc, ◌+◌, ◌*◌, ◌≤◌, ◌<◌}
-use mathlib.Core.Path.{◌≡◌, refl, sym, ◌∙◌}
-use mathlib.Core.Bool.{Bool, true, false, not, ◌&&◌, ◌||◌, false≢true}
-use mathlib.Core.List.{List, ◌∷◌}
-use native.Mathlib.Omega.{arith}
-use borrow.Author.Tests.{leb-true, le-leb, lt-leb, eqb-true, eq-eqb}
-use lib.Dec.{leb, eqb}
-use lib.ListN.{length}
+use Rattle.std.proofs.Common.{ℕ, zero, suc, ◌+◌, ◌*◌, ◌≤◌, ◌<◌, ◌≡◌, refl, sym, ◌∙◌, Bool, true, false, not, ◌&&◌, ◌||◌, List, ◌∷◌, arith, leb-true}
+use Rattle.std.proofs.Common.{le-leb, eqb-true, eq-eqb, leb, eqb, length}
+use Rattle.std.proofs.lemmas.Bool.{false≢true, lt-leb}
 use Rattle.cdf_unit_table.specs.States.{unit_of, nothing}
 use Rattle.cdf_unit_table.proofs.Bools.{both}
 use Rattle.cdf_unit_table.proofs.Rows.{opens_by}

@@ -4,27 +4,27 @@
 ghost use Rattle.std.specs.Prelude.{◌≡◌, ◌∷◌, ◌*◌, ◌/◌, leb};
 ghost use Rattle.cdf_unit_prefix.specs.Layout.{layout_of, prefix_of};
 ghost use Rattle.cdf_reader_spec.specs.Place.{every, fits};
-ghost use Rattle.cdf_reader_spec.specs.Slots.{open_units, open_ranks, place_of};
+ghost use Rattle.cdf_reader_spec.specs.Slots.{opened, open_ranks, place_of};
 ghost use Rattle.cdf_reader_spec.specs.Tests.{chain};
 
+use cdf_open_units::OpenUnits;
 use cdf_reader_last::{is_bounded, is_skippable};
 use cdf_reader_open::{is_outermost, is_past, is_under};
 use cdf_reader_spec::Ranks;
 use cdf_unit_list::{Open, Unit};
 use cdf_unit_prefix::Edition;
 
-// Whether so many open units lie in one another and span n bytes.
-pub fn is_chain(
-    edition: Edition,
-    n: usize,
-    count: usize,
-    top: Open,
-    o1: Open,
-    o2: Open,
-    o3: Open,
-) -> bool
-    ensures { result ≡ chain (layout_of edition) n (open_units count top o1 o2 o3) }
+// Whether these open units lie in one another and span n bytes. A test by the count: a loop would look through slots that it does not reach.
+pub fn is_chain(edition: Edition, n: usize, units: OpenUnits<Open>) -> bool
+    ensures { result ≡ chain (layout_of edition) n (opened units) }
 {
+    let OpenUnits {
+        count,
+        top,
+        o1,
+        o2,
+        o3,
+    } = units;
     if count == 1 {
         return is_outermost(n, top);
     }
@@ -70,23 +70,21 @@ pub fn is_ranked(edition: Edition, position: usize, count: usize, ranks: Ranks) 
                 & (((count < 3) | (ranks.r2 <= most)) & ((count < 2) | (ranks.r1 <= most)))))
 }
 
-// Whether a place with these parts could belong to n bytes: `count` units are open, `top` the innermost, `o1` to `o3` the others
-// from the outermost inwards, and `last`, the last unit handed out, may still be skipped if `fresh`; `ranks` are theirs.
+// Whether a place with these parts could belong to n bytes: these units are open, and `last`, the last unit handed out, may still be
+// skipped if `fresh`; `ranks` are theirs.
 pub fn fits(
     edition: Edition,
     n: usize,
     position: usize,
-    count: usize,
-    top: Open,
-    o1: Open,
-    o2: Open,
-    o3: Open,
+    units: OpenUnits<Open>,
     last: Unit,
     fresh: bool,
     ranks: Ranks,
 ) -> bool
-    ensures { result ≡ fits (layout_of edition) n (place_of position count top o1 o2 o3 last fresh ranks) }
+    ensures { result ≡ fits (layout_of edition) n
+        (place_of position units.count units.top units.o1 units.o2 units.o3 last fresh ranks) }
 {
+    let top = units.top;
     if !is_past(edition, top.start, position) {
         return false;
     }
@@ -99,8 +97,8 @@ pub fn fits(
     if !is_skippable(fresh, position, top, last) {
         return false;
     }
-    if !is_ranked(edition, position, count, ranks) {
+    if !is_ranked(edition, position, units.count, ranks) {
         return false;
     }
-    is_chain(edition, n, count, top, o1, o2, o3)
+    is_chain(edition, n, units)
 }

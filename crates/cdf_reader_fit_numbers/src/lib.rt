@@ -10,51 +10,32 @@ ghost use Rattle.cdf_reader_open_numbers.specs.Held.{held, lasts};
 
 use cdf_reader_fit::most_rank;
 use cdf_reader_last::{is_bounded, is_skippable};
+use cdf_reader_numbers::{last_of, open_of};
 use cdf_reader_open::is_past;
 use cdf_reader_open_numbers::{holds_four, holds_one, holds_three, holds_two};
-use cdf_unit_list::{Open, Unit};
 use cdf_unit_prefix::Edition;
 
-// So many as the count says.
+// So many as the count says. `fits` of the struct stands beside this: `cdf_next` is quicker by the numbers.
 fn holds(edition: Edition, n: usize, most: usize, p: &[u64; 25]) -> bool
-    ensures { result ≡ held (layout_of edition) n most (place_from p.now) (place_from p.now).count }
+    ensures { result ≡ held (layout_of edition) n most (place_from p.now) (place_from p.now).units.count }
 {
-    let count = p[1];
-    if count == 1 {
-        return holds_one(n, most, p);
+    match p[1] {
+        1 => holds_one(n, most, p),
+        2 => holds_two(edition, n, most, p),
+        3 => holds_three(edition, n, most, p),
+        4 => holds_four(edition, n, most, p),
+        _ => false,
     }
-    if count == 2 {
-        return holds_two(edition, n, most, p);
-    }
-    if count == 3 {
-        return holds_three(edition, n, most, p);
-    }
-    if count == 4 {
-        return holds_four(edition, n, most, p);
-    }
-    false
 }
 
 // What is asked of the last unit: where it may be skipped, that it is the innermost and was just entered; its bounds only where it may not.
 fn is_last(edition: Edition, n: usize, p: &[u64; 25]) -> bool
     ensures { result ≡ lasts (layout_of edition) n (place_from p.now) }
 {
-    let last = Unit {
-        id: p[14] as usize,
-        action: p[15] as usize,
-        start: p[16] as usize,
-        own: p[17] as usize,
-        end: p[18] as usize,
-    };
     if p[19] == 0 {
-        return is_bounded(edition, n, last);
+        return is_bounded(edition, n, last_of(p));
     }
-    let top = Open {
-        state: p[2] as usize,
-        start: p[3] as usize,
-        end: p[4] as usize,
-    };
-    is_skippable(true, p[0] as usize, top, last)
+    is_skippable(true, p[0] as usize, open_of(p[2], p[3], p[4]), last_of(p))
 }
 
 // Whether the place that these numbers are could belong to n bytes of this edition.

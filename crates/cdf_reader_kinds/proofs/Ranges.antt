@@ -1,10 +1,7 @@
 -- The kinds of two to four open units, by the ranges of their states.
-use Prim.Native.Nat.{ℕ, ◌≤◌, ◌<◌}
-use mathlib.Core.Path.{◌≡◌, refl, sym, ◌∙◌}
-use mathlib.Core.Bool.{Bool, true, false, cond, ◌&&◌, and-false, and-true}
-use native.Mathlib.Omega.{arith}
-use borrow.Author.Tests.{leb-true, le-leb, lt-leb}
-use lib.Dec.{leb}
+use Rattle.std.proofs.Common.{ℕ, ◌≤◌, ◌<◌, ◌≡◌, refl, sym, ◌∙◌, Bool, true, false, cond, ◌&&◌, arith, leb-true, le-leb, leb}
+use Rattle.std.proofs.lemmas.Bool.{lt-leb}
+use mathlib.Core.Bool.{and-false, and-true}
 use Rattle.cdf_unit_table.specs.States.{unit_of, root_kind, admits_kind, stream_new, stream_skipped, er_new, er_skipped, file_skipped}
 use Rattle.cdf_unit_table.specs.States.{call_skipped, template_new, relation_new, ordered_skipped, entity_new, entity_skipped}
 use Rattle.cdf_unit_table.proofs.Bools.{both}

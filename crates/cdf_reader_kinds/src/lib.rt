@@ -1,5 +1,5 @@
 // Which states open units may have together, by how many units are open: the tests of kinds that the fit test of a whole place asks, each
-// in one function of few branches.
+// in one function of few branches: a loop would look through slots that the count does not reach.
 #![tactic(auto)]
 
 ghost use Rattle.std.specs.Prelude.{◌≡◌, ◌&&◌};

@@ -14,17 +14,17 @@ use cdf_unit_table::first_state;
 pub fn is_bounded(edition: Edition, n: usize, last: Unit) -> bool
     ensures { result ≡ (leb (last.start + prefix_of (layout_of edition)) last.own && (leb last.own last.end && leb last.end n)) }
 {
-    is_past(edition, last.start, last.own) & ((last.own <= last.end) & (last.end <= n))
+    is_past(edition, last.start, last.own) && (last.own <= last.end) && (last.end <= n)
 }
 
-// Whether the last unit may be skipped only where it is the innermost, has had nothing and is just entered.
+// Whether the last unit may be skipped only where it is the innermost, has had nothing and is just entered. A unit that admits none counts as in
+// state 0, as is promised for any id.
 pub fn is_skippable(fresh: bool, position: usize, top: Open, last: Unit) -> bool
     ensures { result ≡ (not fresh || just_entered position top last) }
 {
-    if !fresh {
-        return true;
-    }
-    let first = first_state(last.id);
-    (first == top.state)
-        & ((last.start == top.start) & ((last.end == top.end) & (position == last.own)))
+    !fresh
+        || ((first_state(last.id).unwrap_or(0) == top.state)
+            && (last.start == top.start)
+            && (last.end == top.end)
+            && (position == last.own))
 }

@@ -1,18 +1,12 @@
 -- What NEXT leaves in the two arrays: 11, 2, and else what a step does.
-use Prim.Native.Nat.{ℕ}
-use mathlib.Core.Path.{◌≡◌, refl, sym, ap, ◌∙◌}
-use mathlib.Core.Bool.{Bool, true, false, not, true≢false}
-use mathlib.Core.List.{List, [], ◌∷◌}
-use native.Mathlib.Omega.{arith}
-use borrow.Author.Tests.{eqb-true, eqb-false}
-use lib.Dec.{eqb}
-use lib.ListN.{length}
+use Rattle.std.proofs.Common.{ℕ, ◌≡◌, refl, sym, ap, ◌∙◌, Bool, true, false, not, true≢false, List, [], ◌∷◌, arith, eqb-true, eqb, length}
+use Rattle.std.proofs.lemmas.Bool.{eqb-false}
+use Rattle.cdf_refusal.specs.declared.Refusal.TheVariants.{NoUse, Place}
 use Rattle.cdf_unit_prefix.specs.Layout.{layout_for}
 use Rattle.cdf_reader_spec.specs.Place.{ReaderPlace, fits}
-use Rattle.cdf_reader_spec.specs.Calls.{Reply, no_part, call_of, part_taken}
+use Rattle.cdf_reader_spec.specs.Calls.{Reply, refuse, no_part, call_of, part_taken}
 use Rattle.cdf_reader_spec.specs.declared.Call.TheVariants.{Next}
 use Rattle.cdf_reader_spec.proofs.Replying.{next_named}
-use Rattle.cdf_reader_cursor.specs.Outcomes.{outcome_reply, refusal}
 use Rattle.cdf_reader_cursor.specs.declared.Cursor.{Cursor}
 use Rattle.cdf_reader_advance.specs.Advancing.{advanced}
 use Rattle.cdf_reader_advance.proofs.Steady.{advances}
@@ -56,18 +50,18 @@ module _ (s before : List ℕ) where
   }
 
   -- A refusal without an offset.
-  refused : (n : ℕ) → (n ≡ 0 → ⊥) → outcome_reply (refusal n 0 c) ≡ Due →
+  refused : (n : ℕ) → (n ≡ 0 → ⊥) → refuse n 0 v ≡ Due →
       Called Next s before n before (0 ∷ 0 ∷ 0 ∷ 0 ∷ 0 ∷ 0 ∷ 0 ∷ 0 ∷ 0 ∷ 0 ∷ [])
   refused n some is =
-      called n before (0 ∷ 0 ∷ 0 ∷ 0 ∷ 0 ∷ 0 ∷ 0 ∷ 0 ∷ 0 ∷ 0 ∷ []) (outcome_reply (refusal n 0 c)) is
+      called n before (0 ∷ 0 ∷ 0 ∷ 0 ∷ 0 ∷ 0 ∷ 0 ∷ 0 ∷ 0 ∷ 0 ∷ []) (refuse n 0 v) is
       (record { told = refl; answers = refl; moves = refl; stays = λ some. refl; written = λ none. absurd (some none) })
 
-  pub empty : (place_from before).count ≡ 0 → Called Next s before 11 before (0 ∷ 0 ∷ 0 ∷ 0 ∷ 0 ∷ 0 ∷ 0 ∷ 0 ∷ 0 ∷ 0 ∷ [])
-  empty e = refused 11 (λ z. omega arith) (useless c (layout_for s) s Next (next_none c e) (refusal 11 0 c) refl).0
+  pub empty : (place_from before).units.count ≡ 0 → Called Next s before 11 before (0 ∷ 0 ∷ 0 ∷ 0 ∷ 0 ∷ 0 ∷ 0 ∷ 0 ∷ 0 ∷ 0 ∷ [])
+  empty e = refused 11 (λ z. omega arith) (useless c (layout_for s) s Next (next_none c e) (record { refusal = NoUse; offset = 0 }) refl).0
 
-  pub no_fit : ((place_from before).count ≡ 0 → ⊥) → fits (layout_for s) (length s) v ≡ false →
+  pub no_fit : ((place_from before).units.count ≡ 0 → ⊥) → fits (layout_for s) (length s) v ≡ false →
       Called Next s before 2 before (0 ∷ 0 ∷ 0 ∷ 0 ∷ 0 ∷ 0 ∷ 0 ∷ 0 ∷ 0 ∷ 0 ∷ [])
-  no_fit some e = refused 2 (λ z. omega arith) (unfit c (layout_for s) s Next (next_some c some) e (refusal 2 0 c) refl).0
+  no_fit some e = refused 2 (λ z. omega arith) (unfit c (layout_for s) s Next (next_some c some) e (record { refusal = Place; offset = 0 }) refl).0
 
   -- At a place that fits a step is NEXT.
   pub steps : fits (layout_for s) (length s) v ≡ true → (number : ℕ) (after answer : List ℕ) →

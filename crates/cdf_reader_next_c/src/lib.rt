@@ -7,6 +7,7 @@ ghost use Rattle.cdf_reader_numbers.specs.Numbers.{Called};
 
 use cdf_reader_fit_numbers::fits_at;
 use cdf_reader_step_numbers::step_at;
+use cdf_refusal::Refusal;
 use cdf_unit_prefix::edition_of;
 
 // NEXT: hands out the next unit.
@@ -16,13 +17,12 @@ pub extern "C" fn cdf_next(s: &[u8], place: &mut [u64; 25], answer: &mut [u64; 1
 {
     if place[1] == 0 {
         *answer = [0; 10];
-        return 11;
+        return Refusal::NoUse.number() as u64;
     }
     let edition = edition_of(s);
-    let n = s.len();
-    if !fits_at(edition, n, place) {
+    if !fits_at(edition, s.len(), place) {
         *answer = [0; 10];
-        return 2;
+        return Refusal::Place.number() as u64;
     }
     step_at(edition, s, place, answer)
 }

@@ -1,5 +1,5 @@
 -- The claims of this crate, proved.
-use mathlib.Core.Path.{refl}
+use Rattle.std.proofs.Common.{refl}
 use Rattle.cdf_reader_spec.specs.Slots.{open_units, open_ranks}
 use Rattle.cdf_reader_numbers.specs.Claims.{Claims}
 

@@ -1,7 +1,5 @@
 -- What was written of a place is read again.
-use mathlib.Core.Path.{◌≡◌, refl}
-use mathlib.Core.Bool.{Bool, true, false, not, cond}
-use lib.Dec.{eqb}
+use Rattle.std.proofs.Common.{◌≡◌, refl, Bool, true, false, not, cond, eqb}
 use Rattle.cdf_reader.specs.declared.Place.{Place}
 use Rattle.cdf_reader_numbers.specs.Numbers.{place_from, numbers_of}
 

@@ -18,11 +18,13 @@ open_from a i j k = record { state = get_or a i 0; start = get_or a j 0; end = g
 abbrev pub place_from : List ℕ → Place
 place_from a = record {
   position = get_or a 0 0;
-  count = get_or a 1 0;
-  top = open_from a 2 3 4;
-  o1 = open_from a 5 6 7;
-  o2 = open_from a 8 9 10;
-  o3 = open_from a 11 12 13;
+  units = record {
+    count = get_or a 1 0;
+    top = open_from a 2 3 4;
+    o1 = open_from a 5 6 7;
+    o2 = open_from a 8 9 10;
+    o3 = open_from a 11 12 13;
+  };
   last = record { id = get_or a 14 0; action = get_or a 15 0; start = get_or a 16 0; own = get_or a 17 0; end = get_or a 18 0 };
   fresh = not (eqb (get_or a 19 0) 0);
   ranks = record { top = get_or a 20 0; r1 = get_or a 21 0; r2 = get_or a 22 0; r3 = get_or a 23 0; last = get_or a 24 0 };
@@ -32,19 +34,19 @@ place_from a = record {
 abbrev pub numbers_of : Place → List ℕ
 numbers_of p =
     p.position
-    ∷ p.count
-    ∷ p.top.state
-    ∷ p.top.start
-    ∷ p.top.end
-    ∷ p.o1.state
-    ∷ p.o1.start
-    ∷ p.o1.end
-    ∷ p.o2.state
-    ∷ p.o2.start
-    ∷ p.o2.end
-    ∷ p.o3.state
-    ∷ p.o3.start
-    ∷ p.o3.end
+    ∷ p.units.count
+    ∷ p.units.top.state
+    ∷ p.units.top.start
+    ∷ p.units.top.end
+    ∷ p.units.o1.state
+    ∷ p.units.o1.start
+    ∷ p.units.o1.end
+    ∷ p.units.o2.state
+    ∷ p.units.o2.start
+    ∷ p.units.o2.end
+    ∷ p.units.o3.state
+    ∷ p.units.o3.start
+    ∷ p.units.o3.end
     ∷ p.last.id
     ∷ p.last.action
     ∷ p.last.start

@@ -3,6 +3,11 @@ use Rattle.std.specs.Prelude.{ℕ, ◌-◌, Bool, true, false, cond, ◌&&◌, e
 use Rattle.cdf_reader_spec.specs.Calls.{Part, no_part}
 use Rattle.cdf_reader_spec.specs.declared.Call.{Call}
 use Rattle.cdf_reader_spec.specs.declared.Call.TheVariants.{Start, Next, Skip, GetStream, Previous}
+use Rattle.cdf_reader_numbers.specs.declared.Part.{Part as CodePart}
+
+-- The part that the code's is.
+abbrev pub part_is : CodePart → Part
+part_is p = record { start = p.start; size = p.size }
 
 -- Of the calls only GET_STREAM takes a part, the last unit's bytes.
 abbrev pub is_take : Call → Bool

@@ -1,10 +1,6 @@
 -- A sum that is compared is a difference that is compared.
-use Prim.Native.Nat.{ℕ, ◌+◌, ◌-◌, ◌≤◌}
-use mathlib.Core.Path.{◌≡◌, refl}
-use mathlib.Core.Bool.{Bool, true, false}
-use native.Mathlib.Omega.{arith}
-use borrow.Author.Tests.{leb-true, leb-false, le-leb, lt-leb}
-use lib.Dec.{leb}
+use Rattle.std.proofs.Common.{ℕ, ◌+◌, ◌-◌, ◌≤◌, ◌≡◌, refl, Bool, true, false, arith, leb-true, leb-false, le-leb, leb}
+use Rattle.std.proofs.lemmas.Bool.{lt-leb}
 
 pub taken_off : (a b p : ℕ) → p ≤ b → leb a (b - p) ≡ leb (a + p) b
 taken_off a b p h = go (leb (a + p) b) refl

@@ -42,10 +42,7 @@ pub fn is_past(edition: Edition, a: usize, b: usize) -> bool
     ensures { result ≡ leb (a + prefix_of (layout_of edition)) b }
 {
     let p = prefix(edition);
-    if b < p {
-        return false;
-    }
-    a <= b - p
+    (p <= b) && (a <= b - p)
 }
 
 // Whether the outermost unit spans n bytes and may be a root.
@@ -59,8 +56,5 @@ pub fn is_outermost(n: usize, o: Open) -> bool
 pub fn is_under(edition: Edition, p: Open, o: Open) -> bool
     ensures { result ≡ under (layout_of edition) p o }
 {
-    if !nests(p.state, o.state) {
-        return false;
-    }
-    is_past(edition, p.start, o.start) & (o.end <= p.end)
+    nests(p.state, o.state) && is_past(edition, p.start, o.start) && (o.end <= p.end)
 }

@@ -1,8 +1,6 @@
 -- What is asked of one to four open units: their kinds together, then where they lie, then their ranks.
-use Prim.Native.Nat.{ℕ, ◌+◌}
-use mathlib.Core.Path.{◌≡◌, refl, sym, ap, ◌∙◌}
-use mathlib.Core.Bool.{Bool, true, false, ◌&&◌, and-true}
-use lib.Dec.{leb, eqb}
+use Rattle.std.proofs.Common.{ℕ, ◌+◌, ◌≡◌, refl, sym, ap, ◌∙◌, Bool, true, false, ◌&&◌, leb, eqb}
+use mathlib.Core.Bool.{and-true}
 use Rattle.cdf_unit_table.specs.States.{unit_of, root_kind, admits_kind}
 use Rattle.cdf_unit_prefix.specs.Layout.{Layout, prefix_of}
 use Rattle.cdf_unit_list.specs.declared.Open.{Open}
@@ -30,19 +28,19 @@ module _ (l : Layout) (n most : ℕ) (p : Place) where
   kinds o i = admits_kind (unit_of o.state) (unit_of i.state)
 
   abbrev root : Bool
-  root = root_kind (unit_of p.o1.state)
+  root = root_kind (unit_of p.units.o1.state)
 
   -- The second lies in the first; the root spans the bytes.
   abbrev inside : Open → Open → Bool
   inside o i = leb (o.start + prefix_of l) i.start && leb i.end o.end
 
   abbrev whole : Bool
-  whole = eqb p.o1.start 0 && eqb p.o1.end n
+  whole = eqb p.units.o1.start 0 && eqb p.units.o1.end n
 
   abbrev low : ℕ → Bool
   low k = leb k most
 
-  pub one : (spans n p.top && low p.ranks.top) ≡ held l n most p 1
+  pub one : (spans n p.units.top && low p.ranks.top) ≡ held l n most p 1
   unfolding held
   one = sym (rw and-true)
 
@@ -55,23 +53,23 @@ module _ (l : Layout) (n most : ℕ) (p : Place) where
 
   -- Of two units: their kinds, where they lie and their ranks; then of three and of four.
   abbrev kinds2 : Bool
-  kinds2 = kinds p.o1 p.top && root
+  kinds2 = kinds p.units.o1 p.units.top && root
 
   abbrev lies2 : Bool
-  lies2 = inside p.o1 p.top && whole
+  lies2 = inside p.units.o1 p.units.top && whole
 
   abbrev lows2 : Bool
   lows2 = low p.ranks.top && low p.ranks.r1
 
   pub two : Asked 2 kinds2 (lies2 && lows2)
   unfolding held
-  two = asked 2 kinds2 lies2 lows2 (rw (and-true (low p.ranks.r1)) (ap (λ b. b && lows2) (two_parted (kinds p.o1 p.top) root _ whole)))
+  two = asked 2 kinds2 lies2 lows2 (rw (and-true (low p.ranks.r1)) (ap (λ b. b && lows2) (two_parted (kinds p.units.o1 p.units.top) root _ whole)))
 
   abbrev kinds3 : Bool
-  kinds3 = kinds p.o2 p.top && (kinds p.o1 p.o2 && root)
+  kinds3 = kinds p.units.o2 p.units.top && (kinds p.units.o1 p.units.o2 && root)
 
   abbrev lies3 : Bool
-  lies3 = inside p.o2 p.top && (inside p.o1 p.o2 && whole)
+  lies3 = inside p.units.o2 p.units.top && (inside p.units.o1 p.units.o2 && whole)
 
   abbrev lows3 : Bool
   lows3 = low p.ranks.top && (low p.ranks.r2 && low p.ranks.r1)
@@ -81,13 +79,13 @@ module _ (l : Layout) (n most : ℕ) (p : Place) where
   three =
       asked 3 kinds3 lies3 lows3
       (rw (and-true (low p.ranks.r1))
-      (ap (λ b. b && lows3) (three_parted (kinds p.o2 p.top) (kinds p.o1 p.o2) root _ _ whole)))
+      (ap (λ b. b && lows3) (three_parted (kinds p.units.o2 p.units.top) (kinds p.units.o1 p.units.o2) root _ _ whole)))
 
   abbrev kinds4 : Bool
-  kinds4 = kinds p.o3 p.top && (kinds p.o2 p.o3 && (kinds p.o1 p.o2 && root))
+  kinds4 = kinds p.units.o3 p.units.top && (kinds p.units.o2 p.units.o3 && (kinds p.units.o1 p.units.o2 && root))
 
   abbrev lies4 : Bool
-  lies4 = inside p.o3 p.top && (inside p.o2 p.o3 && (inside p.o1 p.o2 && whole))
+  lies4 = inside p.units.o3 p.units.top && (inside p.units.o2 p.units.o3 && (inside p.units.o1 p.units.o2 && whole))
 
   abbrev lows4 : Bool
   lows4 = low p.ranks.top && (low p.ranks.r3 && (low p.ranks.r2 && low p.ranks.r1))
@@ -97,9 +95,9 @@ module _ (l : Layout) (n most : ℕ) (p : Place) where
   four =
       asked 4 kinds4 lies4 lows4
       (rw (and-true (low p.ranks.r1))
-      (ap (λ b. b && lows4) (four_parted (kinds p.o3 p.top) (kinds p.o2 p.o3) (kinds p.o1 p.o2) root _ _ _ whole)))
+      (ap (λ b. b && lows4) (four_parted (kinds p.units.o3 p.units.top) (kinds p.units.o2 p.units.o3) (kinds p.units.o1 p.units.o2) root _ _ _ whole)))
 
   -- No other number of units holds.
   pub other : (count : ℕ) → (count ≡ 1 → ⊥) → (count ≡ 2 → ⊥) → (count ≡ 3 → ⊥) → (count ≡ 4 → ⊥) → false ≡ held l n most p count
   unfolding held
-  other count a b c d = rw (← too_many l n count p.top p.o1 p.o2 p.o3 a b c d)
+  other count a b c d = rw (← too_many l n count p.units.top p.units.o1 p.units.o2 p.units.o3 a b c d)

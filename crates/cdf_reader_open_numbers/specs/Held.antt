@@ -11,10 +11,10 @@ use Rattle.cdf_reader.specs.declared.Place.{Place}
 unfoldable pub held : Layout → ℕ → ℕ → Place → ℕ → Bool
 unfolding chain open_units open_ranks every
 held l n most p count =
-    chain l n (open_units count p.top p.o1 p.o2 p.o3) && every (λ k. leb k most) (open_ranks count p.ranks)
+    chain l n (open_units count p.units.top p.units.o1 p.units.o2 p.units.o3) && every (λ k. leb k most) (open_ranks count p.ranks)
 
 -- The last unit was just entered, where it may be skipped, and else its bounds stand in their order.
 abbrev pub lasts : Layout → ℕ → Place → Bool
 lasts l n p =
-    cond p.fresh (just_entered p.position p.top p.last)
+    cond p.fresh (just_entered p.position p.units.top p.last)
     (leb (p.last.start + prefix_of l) p.last.own && (leb p.last.own p.last.end && leb p.last.end n))

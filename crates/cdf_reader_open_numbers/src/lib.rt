@@ -1,4 +1,5 @@
-// Whether the open units of a place hold, one to four of them, straight on the numbers that cross to C.
+// Whether the open units of a place hold, one to four of them, straight on the numbers that cross to C. A function for each count has its tests on the
+// slots of an array; a loop over the count would look through slots that it does not reach.
 #![tactic(auto)]
 
 ghost use Rattle.std.specs.Prelude.{◌≡◌};
@@ -7,20 +8,15 @@ ghost use Rattle.cdf_reader_numbers.specs.Numbers.{place_from};
 ghost use Rattle.cdf_reader_open_numbers.specs.Held.{held};
 
 use cdf_reader_kinds::{is_fourfold, is_pair, is_triple};
+use cdf_reader_numbers::open_of;
 use cdf_reader_open::{is_outermost, is_past};
-use cdf_unit_list::Open;
 use cdf_unit_prefix::Edition;
 
 // One open unit, in any layout.
 pub fn holds_one(n: usize, most: usize, p: &[u64; 25]) -> bool
     ensures { (l : Layout) → result ≡ held l n most (place_from p.now) 1 }
 {
-    let top = Open {
-        state: p[2] as usize,
-        start: p[3] as usize,
-        end: p[4] as usize,
-    };
-    is_outermost(n, top) & (p[20] as usize <= most)
+    is_outermost(n, open_of(p[2], p[3], p[4])) & (p[20] as usize <= most)
 }
 
 // Two.

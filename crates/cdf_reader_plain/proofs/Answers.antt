@@ -1,12 +1,8 @@
 -- A call answers as the plain reader does, and leaves a place that belongs to the plain reader's state.
-use Prim.Native.Nat.{ℕ, ◌≤◌}
-use mathlib.Core.Path.{◌≡◌, refl, sym, ap, ◌∙◌}
-use mathlib.Core.Bool.{Bool, true, false, not, cond, ◌&&◌, and-false, and_assoc, and_self, false≢true}
-use mathlib.Core.List.{List, [], ◌∷◌, ◌++◌, reverse_aux, cons≢nil}
-use native.Mathlib.Omega.{arith}
-use borrow.Author.Tests.{ne_eqb}
-use lib.Dec.{eqb}
-use lib.ListN.{length}
+use Rattle.std.proofs.Common.{ℕ, ◌≤◌, ◌≡◌, refl, sym, ap, ◌∙◌, Bool, true, false, not, cond, ◌&&◌, List, [], ◌∷◌, ◌++◌, arith, ne_eqb, eqb, length}
+use Rattle.std.proofs.lemmas.Bool.{false≢true}
+use mathlib.Core.Bool.{and-false, and_assoc, and_self}
+use mathlib.Core.List.{reverse_aux, cons≢nil}
 use Rattle.cdf_unit_table.specs.States.{opens}
 use Rattle.cdf_unit_table.proofs.Bools.{both, clash}
 use Rattle.cdf_unit_prefix.specs.Layout.{Layout}
@@ -32,10 +28,11 @@ use Rattle.cdf_reader_spec.specs.declared.Call.TheVariants.{Start, Next, Skip, G
 use Rattle.cdf_reader_plain.specs.Calls.{handing}
 use Rattle.cdf_reader_plain.specs.Plain.{State, fresh_at, passed_by, Turn, turn, starting_at, followers, hand_out, span_of, plain_answer}
 use Rattle.cdf_reader_plain.proofs.Groups.{group_opens}
+use Rattle.cdf_reader_spec.proofs.Telling.{handed_passed}
 use Rattle.cdf_reader_spec.proofs.Replying.{passing_tests, skip_is, take_is, part_is}
 use Rattle.cdf_reader_plain.proofs.Passing.{top, passed_fits, previous_is}
 use Rattle.cdf_reader_plain.proofs.Later.{starts_before, further_on, run_past, past_later}
-use Rattle.cdf_reader_plain.proofs.Skipped.{past_goes, handed_past, split_ranks, passed_closes}
+use Rattle.cdf_reader_plain.proofs.Skipped.{past_goes, split_ranks, passed_closes}
 use Rattle.cdf_reader_plain.proofs.Equations.{telling, pass, start_call, next_call, skip_call, take_call, previous_call}
 use Rattle.cdf_reader_plain.proofs.Equations.{start_turn, next_turn, skip_turn, take_turn, previous_turn}
 
@@ -185,7 +182,7 @@ module _ (l : Layout) (s : List ℕ) (first : Ranked) (rest : List Ranked) (P : 
           (rw t.units at new.behind.follow) w.1 (omega (arith, end)) gone.inside gone.within ranks.1 ranks.0 ranks.3 in
           record {
             fit = passed_fits l (length s) p b.fit (b.flag ∙ on);
-            last = handed_past p ∙ b.last;
+            last = handed_passed p ∙ b.last;
             flag = closed.fresh;
             here = b.here;
             ahead = record {

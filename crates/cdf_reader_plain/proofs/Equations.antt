@@ -1,14 +1,12 @@
 -- The two readers' calls and runs, call by call. To unfold them would unfold the judge and the rows too, so these equations stand
 -- for that.
-use Prim.Native.Nat.{ℕ}
-use mathlib.Core.Path.{◌≡◌, refl}
-use mathlib.Core.Bool.{Bool, cond, ◌&&◌}
-use mathlib.Core.List.{List, [], ◌∷◌}
+use Rattle.std.proofs.Common.{ℕ, ◌≡◌, refl, Bool, cond, ◌&&◌, List, [], ◌∷◌}
 use Rattle.cdf_unit_table.specs.States.{opens}
 use Rattle.cdf_unit_prefix.specs.Layout.{Layout}
 use Rattle.cdf_unit_list.specs.declared.Ranked.{Ranked}
 use Rattle.cdf_reader_spec.specs.Place.{ReaderPlace}
-use Rattle.cdf_reader_spec.specs.Calls.{Reply, Part, is_group, empty_place, first_of, next_of, skip_of, take_of, part_of, previous_of, no_part, call_of, part_taken}
+use Rattle.cdf_reader_spec.specs.Calls.{Reply, Part, is_group, empty_place, first_of, next_of, skip_of, take_of, part_of, previous_of, no_part}
+use Rattle.cdf_reader_spec.specs.Calls.{call_of, part_taken}
 use Rattle.cdf_reader_spec.specs.declared.Call.{Call}
 use Rattle.cdf_reader_spec.specs.declared.Call.TheVariants.{Start, Next, Skip, GetStream, Previous}
 use Rattle.cdf_reader_plain.specs.Calls.{Told, handing, taking, saying}

@@ -1,5 +1,5 @@
 -- The written-out runs, computed. No law is cited here, so that a wrong definition of a run is refused by its answers.
-use mathlib.Core.Path.{refl}
+use Rattle.std.proofs.Common.{refl}
 use Rattle.cdf_unit_table.specs.States.{unit_of, admits_kind}
 use Rattle.cdf_unit_list.specs.Ranks.{ranked_units}
 use Rattle.cdf_reader_spec.specs.Place.{nested, every, positioned, at_last}

@@ -1,7 +1,6 @@
 -- A group admits others.
-use Prim.Native.Nat.{ℕ}
-use mathlib.Core.Path.{◌≡◌, refl}
-use mathlib.Core.Bool.{true, or-false, or-true}
+use Rattle.std.proofs.Common.{ℕ, ◌≡◌, refl, true}
+use mathlib.Core.Bool.{or-false, or-true}
 use Rattle.cdf_unit_table.specs.Ids.{member}
 use Rattle.cdf_unit_table.specs.States.{nothing, opens, root_kind}
 use Rattle.cdf_unit_table.proofs.Rows.{root_opens, opens_by}

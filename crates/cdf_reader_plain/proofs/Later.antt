@@ -1,12 +1,8 @@
 -- The units of a run that start at the end of an open unit or after it: the run of the steps from there.
-use Prim.Native.Nat.{ℕ, suc, ◌≤◌, ◌<◌}
-use mathlib.Core.Path.{◌≡◌, refl, sym, ap, ◌∙◌}
-use mathlib.Core.Bool.{Bool, true, false, cond}
-use mathlib.Core.List.{List, [], ◌∷◌, ◌++◌, reverse_aux, append-nil}
-use native.Mathlib.Omega.{arith}
-use borrow.Author.Tests.{leb-false, le-leb, lt-leb}
-use lib.Dec.{leb}
-use lib.ListN.{length}
+use Rattle.std.proofs.Common.{ℕ, suc, ◌≤◌, ◌<◌, ◌≡◌, refl, sym, ap, ◌∙◌, Bool, true, false, cond, List, [], ◌∷◌, ◌++◌, append-nil, arith, leb-false}
+use Rattle.std.proofs.Common.{le-leb, leb, length}
+use Rattle.std.proofs.lemmas.Bool.{lt-leb}
+use mathlib.Core.List.{reverse_aux}
 use Rattle.cdf_unit_prefix.specs.Layout.{Layout}
 use Rattle.cdf_unit_list.specs.Units.{End, ended, Listing}
 use Rattle.cdf_unit_list.specs.Ranks.{standing, ranked}

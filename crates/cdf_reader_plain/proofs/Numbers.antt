@@ -1,8 +1,5 @@
 -- The plain reader answers with 0, 1 or 11.
-use Prim.Native.Nat.{ℕ, zero, suc, ◌<◌}
-use mathlib.Core.Bool.{Bool, ◌&&◌}
-use mathlib.Core.List.{List, [], ◌∷◌}
-use native.Mathlib.Omega.{arith}
+use Rattle.std.proofs.Common.{ℕ, zero, suc, ◌<◌, Bool, ◌&&◌, List, [], ◌∷◌, arith}
 use Rattle.cdf_unit_table.specs.States.{opens}
 use Rattle.cdf_unit_table.proofs.Bools.{of_cond}
 use Rattle.cdf_unit_list.specs.declared.Ranked.{Ranked}

@@ -1,13 +1,7 @@
 -- The place past the last unit fits, and so does every place that SKIP, GET_STREAM and PREVIOUS return with 0. Past a root there is
 -- nothing; and how many bytes there are is all that SKIP and GET_STREAM ask of them.
-use Prim.Native.Nat.{ℕ}
-use mathlib.Core.Path.{◌≡◌, refl, ◌∙◌}
-use mathlib.Core.Bool.{Bool, true, false, not, ◌&&◌, false≢true}
-use mathlib.Core.List.{List, [], ◌∷◌}
-use native.Mathlib.Omega.{arith}
-use borrow.Author.Tests.{eqb-true, ne_eqb, not-false}
-use lib.Dec.{eqb}
-use lib.ListN.{length}
+use Rattle.std.proofs.Common.{ℕ, ◌≡◌, refl, ◌∙◌, Bool, true, false, not, ◌&&◌, List, [], ◌∷◌, arith, eqb-true, ne_eqb, eqb, length}
+use Rattle.std.proofs.lemmas.Bool.{false≢true, not-false}
 use Rattle.cdf_unit_table.specs.States.{unit_of, nothing, skipped}
 use Rattle.cdf_unit_table.proofs.Bools.{both, of_cond}
 use Rattle.cdf_unit_table.proofs.Skipping.{skipped_unit, skipped_complete}

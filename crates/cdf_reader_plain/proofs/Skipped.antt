@@ -1,20 +1,14 @@
 -- Past a unit as a whole: the units in it are listed, but none of them counts in those around it. So what is open there, and which rank is due,
 -- is what it was where the unit was handed out.
-use Prim.Native.Nat.{ℕ, suc, ◌≤◌, ◌<◌}
-use mathlib.Core.Path.{◌≡◌, refl}
-use mathlib.Core.Bool.{Bool, true, false, cond, ◌&&◌, and-false}
-use mathlib.Core.List.{List, [], ◌∷◌, ◌++◌, map}
-use native.Mathlib.Omega.{arith}
-use borrow.Author.Tests.{eq-eqb, ne_eqb, lt-ltb, le-ltb, le-leb}
-use lib.Dec.{ltb}
-use lib.ListN.{length}
+use Rattle.std.proofs.Common.{ℕ, suc, ◌≤◌, ◌<◌, ◌≡◌, refl, Bool, true, false, cond, ◌&&◌, List, [], ◌∷◌, ◌++◌, map, arith, eq-eqb, ne_eqb, lt-ltb}
+use Rattle.std.proofs.Common.{le-ltb, le-leb, ltb}
+use mathlib.Core.Bool.{and-false}
 use Rattle.cdf_unit_table.specs.States.{opens, skipped}
 use Rattle.cdf_unit_table.proofs.Skipping.{skipped_complete}
 use Rattle.cdf_unit_prefix.specs.Layout.{Layout}
 use Rattle.cdf_unit_list.specs.Units.{parents_that, open_at, first_starts, inside, state_of, Next}
 use Rattle.cdf_unit_list.specs.Stack.{Closing, close, with_state, step_in, step, step_by, step_in_by}
 use Rattle.cdf_unit_list.specs.declared.Unit.{Unit}
-use Rattle.cdf_unit_list.specs.declared.Ranked.{Ranked}
 use Rattle.cdf_unit_list.specs.declared.Open.{Open}
 use Rattle.cdf_unit_list.proofs.Nested.{reaching, Nested, narrow, still_reach}
 use Rattle.cdf_unit_list.proofs.StatesListed.{open_of, Before, before_later}
@@ -26,7 +20,7 @@ use Rattle.cdf_unit_list.proofs.Ranks.{Counted, CountedLeft, CountsOn, within_co
 use Rattle.cdf_grammar.proofs.Nesting.{Within}
 use Rattle.cdf_reader_spec.specs.Place.{ReaderPlace, is_state}
 use Rattle.cdf_reader_spec.specs.Closing.{unclosed_ranks}
-use Rattle.cdf_reader_spec.specs.Ranking.{innermost_at, rank_after, next_rank, depth_at, handed_at}
+use Rattle.cdf_reader_spec.specs.Ranking.{rank_after, next_rank}
 use Rattle.cdf_reader_spec.specs.Calls.{skipped_top, passed}
 use Rattle.cdf_reader_runs.proofs.Ranking.{close_counted}
 use Rattle.cdf_reader_runs.proofs.Looping.{Follows, agrees_follow, ranks_left}
@@ -122,22 +116,6 @@ module _ (u : Unit) (us : List Unit) (pos : ℕ) (past : u.start < pos) where
               agrees_follow (within_agrees l s (listed vs) u.end before (open_at u.end us) same n (rw e at low)),
               within_counts l s (listed vs) u.end before (open_at u.end us) same n _ _ (rw e at due),
             )
-
--- A unit that is passed keeps its depth and its rank.
-pub handed_past : (p : ReaderPlace) → handed_at (passed p) ≡ handed_at p
-unfolding handed_at depth_at innermost_at passed skipped_top with_state
-handed_past p = go p.units
-  where
-    go : (os : List Open) →
-        ◌≡◌ {A = Ranked}
-        (record {
-          unit = p.last;
-          depth = cond (innermost_at (skipped_top os) p.last.start) (length (skipped_top os)) (suc (length (skipped_top os)));
-          rank = p.last_rank;
-        })
-        (record { unit = p.last; depth = cond (innermost_at os p.last.start) (length os) (suc (length os)); rank = p.last_rank })
-    go [] = refl
-    go (o ∷ os) = refl
 
 -- Open units with their ranks: the innermost has one.
 pub split_ranks : (us : List Unit) (os : List Open) (ks : List ℕ) (r : ℕ) → Counted us os ks r → (o : Open) (outer : List Open) → os ≡ o ∷ outer →

@@ -1,135 +1,172 @@
-// A run of the reader's calls, by their codes, into a log. The loop keeps a cursor and tests no place: each that it holds is empty or was
-// returned with 0, and so fits.
+// A run of a reader's calls, by their codes, into a log. The loop keeps a cursor; each that it holds is empty or was returned with 0, and so
+// fits: the reader's own calls test no place.
 #![tactic(auto)]
 
-ghost use Rattle.std.specs.Prelude.{◌≡◌, [], ◌∷◌, ◌++◌, ◌*◌, ◌≤◌, length, drop};
+ghost use Rattle.std.specs.Prelude.{◌≡◌, ℕ, Some, None, cond, [], ◌∷◌, map, ◌*◌, ◌≤◌, length};
 ghost use Rattle.cdf_unit_prefix.specs.Layout.{edition_of, layout_for};
 ghost use Rattle.cdf_unit_data.specs.Standing.{name_row};
-ghost use Rattle.cdf_reader_spec.specs.Ranking.{depth_at};
 ghost use Rattle.cdf_reader_spec.specs.Calls.{call_of};
-ghost use Rattle.cdf_reader_cursor.specs.Outcomes.{cursor_place, outcome_reply};
-ghost use Rattle.cdf_reader_replay_spec.specs.Replay.{ran_of, entry_of, log_after, Replayed};
-ghost use Rattle.cdf_reader_replay_spec.specs.Holding.{Held, told_of};
+ghost use Rattle.cdf_reader_cursor.specs.Outcomes.{cursor_place, reply_from};
+ghost use Rattle.cdf_reader_step.specs.Kept.{cursor_kept};
+ghost use Rattle.cdf_reader_numbers.specs.Taking.{part_is, part_by};
+ghost use Rattle.cdf_reader_replay_spec.specs.Replay.{known_code, call_by, ran_of, entry_of, log_after, Replayed};
+ghost use Rattle.cdf_refusal.specs.Numbers.{number_in, count_in};
+ghost use Rattle.cdf_reader_replay_spec.specs.Holding.{Held, cursor_after, number_told, told_of};
 
 use cdf_reader_advance_by::advance;
-use cdf_reader_cursor::{Cursor, Outcome, first_as, no_cursor, pass, refused};
-use cdf_reader_replay_codes::{Span, call_by, is_known, part_of};
+use cdf_reader_cursor::{Cursor, Outcome, first_as, no_cursor, pass};
+use cdf_reader_numbers::Part;
+use cdf_reader_replay_codes::call_of_code;
 use cdf_reader_spec::Call;
-use cdf_reader_use::has_use;
-use cdf_unit_list::Ranked;
+use cdf_reader_step::last_depth;
+use cdf_reader_use::{has_use, is_start};
+use cdf_refusal::{Fault, Refusal};
+use cdf_unit_list::{Ranked, Unit};
 use cdf_unit_own::row::NAME_BYTES;
 use cdf_unit_prefix::{Edition, edition_of};
 
-// What a replay answers: the number, and how many entries it has written.
-#[derive(Clone, Copy)]
-pub struct Logged {
-    pub number: usize,
-    pub count: usize,
+// What a replay runs: a reader's calls, by its table.
+pub trait Turns {
+    // The code that the first reader's replay would be given.
+    ghost heard: { ℕ → ℕ };
+
+    // The call of a code, if it is the code of one.
+    fn call_of(code: u8) -> Option<Call>
+        ensures { result ≡ cond (known_code (heard code)) (Some (call_by (heard code))) None };
+
+    // Any call at a place that the loop holds.
+    fn turn(&self, c: Cursor, edition: Edition, call: Call, s: &[u8]) -> Result<Outcome, Fault>
+        requires { Held s.now c × (edition ≡ edition_of s.now) }
+        ensures is { reply_from (cursor_kept call c) result ≡ call_of (layout_for s.now) s.now (cursor_place c) call }
+        ensures held { Held s.now (cursor_after call c result) };
 }
 
-// How deep the last unit of a place stands: it is the innermost by its start, or stands in that one.
-fn last_depth(c: Cursor) -> usize
-    requires { (1 ≤ c.count) × (c.count ≤ 5) }
-    ensures { result ≡ depth_at (cursor_place c) }
-{
-    if c.top.start == c.last.start {
-        return c.count;
-    }
-    let deeper = c.count + 1;
-    deeper
+// The first reader, with the format's row of name bytes.
+struct ByRow {
+    row: [u8; 256],
+    ghost published: { row ≡ name_row },
 }
 
-// Any call at a place that the loop holds, with the row of name bytes: 11, then what it does.
-fn turn(c: Cursor, row: &[u8; 256], edition: Edition, call: Call, s: &[u8]) -> Outcome
-    requires { Held s.now c × (row.now ≡ name_row) × (edition ≡ edition_of s.now) }
-    ensures is { outcome_reply result ≡ call_of (layout_for s.now) s.now (cursor_place c) call }
-    ensures held { Held s.now result.cursor }
-{
-    if !has_use(call, c.count, c.fresh, c.last.id) {
-        return refused(11, 0, c);
+impl Turns for ByRow {
+    ghost heard = { λ code. code };
+
+    #[inline]
+    fn call_of(code: u8) -> Option<Call> {
+        call_of_code(code)
     }
-    match call {
-        Call::Start => first_as(edition, s),
-        Call::Next => advance(c, row, edition, s),
-        Call::Skip => pass(c),
-        Call::GetStream => pass(c),
-        Call::Previous => {
-            let unit = c.last;
-            let depth = last_depth(c);
-            let handed = Ranked {
-                unit,
-                depth,
-                rank: c.ranks.last,
-            };
-            Outcome {
-                number: 0,
-                offset: 0,
-                handed,
+
+    // Nothing to do here, then what the call does. `call_at` has the same calls, behind a test of the place that this loop need not ask.
+    #[inline]
+    fn turn(&self, c: Cursor, edition: Edition, call: Call, s: &[u8]) -> Result<Outcome, Fault> {
+        if !has_use(call, c.units.count, c.fresh, c.last.id) {
+            return Err(Refusal::NoUse.at(0));
+        }
+        match call {
+            Call::Start => first_as(edition, s),
+            Call::Next => advance(c, &self.row, edition, s),
+            Call::Skip | Call::GetStream => Ok(pass(c)),
+            Call::Previous => Ok(Outcome {
+                handed: Ranked {
+                    unit: c.last,
+                    depth: last_depth(c),
+                    rank: c.ranks.last,
+                },
                 cursor: c,
-            }
+            }),
         }
     }
 }
 
-// Writes an entry to the front of what is left of the log.
-fn write_entry(tail: &mut [u64], o: Outcome, part: Span)
-    requires { 11 ≤ length tail.old }
-    ensures { tail.new ≡ entry_of (told_of o (record { start = part.start; size = part.size })) ++ drop 11 tail.old }
+// Writes the numbers of an entry, each straight into the log: by an array that is copied there, a replay of short units takes a quarter longer.
+#[inline]
+fn write_numbers(entry: &mut [u64], number: usize, offset: usize, part: Part, handed: Ranked)
+    requires { length entry.old ≡ 11 }
+    ensures { entry.new ≡ entry_of (record { number = number; offset = offset; part = part_is part; handed = handed }) }
 {
-    let handed = o.handed;
-    let unit = handed.unit;
-    tail[0] = o.number as u64;
-    tail[1] = o.offset as u64;
-    tail[2] = part.start as u64;
-    tail[3] = part.size as u64;
-    tail[4] = unit.id as u64;
-    tail[5] = unit.action as u64;
-    tail[6] = unit.start as u64;
-    tail[7] = unit.own as u64;
-    tail[8] = unit.end as u64;
-    tail[9] = handed.depth as u64;
-    tail[10] = handed.rank as u64;
+    entry[0] = number as u64;
+    entry[1] = offset as u64;
+    entry[2] = part.start as u64;
+    entry[3] = part.size as u64;
+    entry[4] = handed.unit.id as u64;
+    entry[5] = handed.unit.action as u64;
+    entry[6] = handed.unit.start as u64;
+    entry[7] = handed.unit.own as u64;
+    entry[8] = handed.unit.end as u64;
+    entry[9] = handed.depth as u64;
+    entry[10] = handed.rank as u64;
+}
+
+// Writes the entry of a turn at a place with this last unit.
+#[inline]
+fn write_entry(entry: &mut [u64], call: Call, told: Result<Outcome, Fault>, last: Unit)
+    requires { length entry.old ≡ 11 }
+    ensures { entry.new ≡ entry_of (told_of told (part_by call (number_told told) last.start last.end)) }
+{
+    match told {
+        Ok(o) => write_numbers(entry, 0, 0, Part::of(call, 0, last), o.handed),
+        Err(fault) => write_numbers(
+            entry,
+            fault.refusal.number(),
+            fault.offset,
+            Part::default(),
+            Ranked::default(),
+        ),
+    }
+}
+
+// The cursor to which a turn leads.
+#[inline]
+fn after(call: Call, told: Result<Outcome, Fault>, c: Cursor) -> Cursor
+    ensures { result ≡ cursor_after call c told }
+{
+    match told {
+        Ok(o) => o.cursor,
+        Err(_) => {
+            if is_start(call) {
+                return no_cursor();
+            }
+            c
+        }
+    }
 }
 
 // Runs the calls one after the other, and writes an entry for each.
-fn run(s: &[u8], calls: &[u8], log: &mut [u64]) -> usize
+fn run<T: Turns>(reader: &T, s: &[u8], calls: &[u8], log: &mut [u64]) -> usize
     requires { 11 * length calls.now ≤ length log.old }
-    ensures count { result ≡ length (ran_of s.now calls.now) }
-    ensures written { log.new ≡ log_after (ran_of s.now calls.now) log.old }
+    ensures count { result ≡ length (ran_of s.now (map T.heard calls.now)) }
+    ensures written { log.new ≡ log_after (ran_of s.now (map T.heard calls.now)) log.old }
 {
-    let row = NAME_BYTES;
     let edition = edition_of(s);
     let mut c = no_cursor();
-    let mut k = 0;
-    let mut at = 0;
-    while k < calls.len() {
-        let code = calls[k];
-        if !is_known(code) {
+    for (k, &code) in calls.iter().enumerate() {
+        let Some(call) = T::call_of(code) else {
             return k;
-        }
-        let call = call_by(code);
-        let o = turn(c, &row, edition, call, s);
-        let part = part_of(code, o.number, c.last.start, c.last.end);
-        let end = log.len();
-        write_entry(&mut log[at..end], o, part);
-        c = o.cursor;
-        k = k + 1;
-        at = at + 11;
+        };
+        let told = reader.turn(c, edition, call, s);
+        write_entry(&mut log[11 * k..11 * k + 11], call, told, c.last);
+        c = after(call, told, c);
     }
-    k
+    calls.len()
 }
 
-// A run of calls, by their codes: 1 start, 2 NEXT, 3 SKIP, 4 GET_STREAM, 5 PREVIOUS; a code that is none of these ends it. 12 if
-// the log could not hold an entry for each of them; else 0, and how many entries there are.
-pub fn replay(s: &[u8], calls: &[u8], log: &mut [u64]) -> Logged
-    ensures { Replayed s.now calls.now log.old result.number log.new (result.count ∷ []) }
+// A run of a reader's calls: 12 if the log could not hold an entry for each code; else how many entries there are.
+pub fn replay_by<T: Turns>(
+    reader: &T,
+    s: &[u8],
+    calls: &[u8],
+    log: &mut [u64],
+) -> Result<usize, Refusal>
+    ensures { Replayed s.now (map T.heard calls.now) log.old (number_in result) log.new (count_in result ∷ []) }
 {
     if log.len() / 11 < calls.len() {
-        return Logged {
-            number: 12,
-            count: 0,
-        };
+        return Err(Refusal::NoRoom);
     }
-    let count = run(s, calls, log);
-    Logged { number: 0, count }
+    Ok(run(reader, s, calls, log))
+}
+
+// The first reader's calls, by their codes: 1 start, 2 NEXT, 3 SKIP, 4 GET_STREAM, 5 PREVIOUS; a code that is none of these ends the run.
+pub fn replay(s: &[u8], calls: &[u8], log: &mut [u64]) -> Result<usize, Refusal>
+    ensures { Replayed s.now calls.now log.old (number_in result) log.new (count_in result ∷ []) }
+{
+    replay_by(&ByRow { row: NAME_BYTES }, s, calls, log)
 }

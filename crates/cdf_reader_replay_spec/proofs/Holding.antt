@@ -1,10 +1,8 @@
 -- A call at a place that the loop holds may go on with it, and returns one that the loop may hold.
-use Prim.Native.Nat.{ℕ}
-use mathlib.Core.Path.{◌≡◌, refl}
-use mathlib.Core.Bool.{Bool, true, false}
-use mathlib.Core.List.{List}
-use borrow.Author.Tests.{eqb-true, eqb-false, not-true}
-use lib.Dec.{eqb}
+use Rattle.std.proofs.Common.{ℕ, ◌≡◌, refl, true, List}
+use Rattle.std.proofs.lemmas.Bool.{eqb-false, not-true}
+use Rattle.std.specs.Prelude.{Result, Ok, Err}
+use Rattle.cdf_refusal.specs.declared.Fault.{Fault}
 use Rattle.cdf_unit_table.proofs.Bools.{both}
 use Rattle.cdf_unit_prefix.specs.Layout.{Layout, layout_for}
 use Rattle.cdf_reader_spec.specs.Place.{ReaderPlace}
@@ -12,15 +10,15 @@ use Rattle.cdf_reader_spec.specs.Calls.{Reply, call_of}
 use Rattle.cdf_reader_spec.specs.declared.Call.{Call}
 use Rattle.cdf_reader_spec.specs.declared.Call.TheVariants.{Start, Next, Skip, GetStream, Previous}
 use Rattle.cdf_reader_spec.proofs.Replying.{start_named, next_named, skip_named, take_named, previous_named}
-use Rattle.cdf_reader_cursor.specs.Outcomes.{cursor_place, outcome_reply}
+use Rattle.cdf_reader_cursor.specs.Outcomes.{cursor_place, outcome_reply, reply_from}
 use Rattle.cdf_reader_cursor.specs.declared.Cursor.{Cursor}
 use Rattle.cdf_reader_cursor.specs.declared.Outcome.{Outcome}
-use Rattle.cdf_reader_step.specs.Kept.{cursor_kept}
+use Rattle.cdf_reader_step.specs.Kept.{cursor_kept, Again}
 use Rattle.cdf_reader_step.proofs.Asking.{Use, ready}
 use Rattle.cdf_reader_runs.proofs.Proved.{proved as runs}
 use Rattle.cdf_reader_plain.specs.Claims.{Fits}
 use Rattle.cdf_reader_plain.proofs.Proved.{proved as plain}
-use Rattle.cdf_reader_replay_spec.specs.Holding.{Held}
+use Rattle.cdf_reader_replay_spec.specs.Holding.{Held, cursor_after}
 
 -- A place that any call returns with 0 fits.
 returned : (l : Layout) (s : List ℕ) (v : ReaderPlace) (c : Call) → Fits l s (call_of l s v c)
@@ -37,10 +35,10 @@ module _ (s : List ℕ) (p : Cursor) (held : Held s p) where
   -- A call that has a use, but a start, has an open unit.
   pub may_go : (c : Call) → Use p c ≡ true → ready p (layout_for s) s c ≡ true
   may_go Start u = refl
-  may_go Next u = held (eqb-false p.count 0 (not-true _ u))
-  may_go Skip u = held (eqb-false p.count 0 (not-true _ (both _ _ u).0))
-  may_go GetStream u = held (eqb-false p.count 0 (not-true _ (both _ _ (both _ _ u).0).0))
-  may_go Previous u = held (eqb-false p.count 0 (not-true _ u))
+  may_go Next u = held (eqb-false p.units.count 0 (not-true _ u))
+  may_go Skip u = held (eqb-false p.units.count 0 (not-true _ (both _ _ u).0))
+  may_go GetStream u = held (eqb-false p.units.count 0 (not-true _ (both _ _ (both _ _ u).0).0))
+  may_go Previous u = held (eqb-false p.units.count 0 (not-true _ u))
 
   kept_held : (c : Call) → Held s (cursor_kept c p)
   kept_held Start = λ some. absurd (some refl)
@@ -50,15 +48,11 @@ module _ (s : List ℕ) (p : Cursor) (held : Held s p) where
   kept_held Previous = held
 
   -- What is promised of a call's answer, and that the loop may go on with it.
-  pub goes_on : (c : Call) (r : Outcome) →
-      (outcome_reply r ≡ call_of (layout_for s) s (cursor_place p) c)
-      × (((r.number ≡ 0 → ⊥) → r.cursor ≡ cursor_kept c p) × (c ≡ Previous → r.cursor ≡ p)) →
-      (outcome_reply r ≡ call_of (layout_for s) s (cursor_place p) c) × Held s r.cursor
-  goes_on c r w = (w.0, go (eqb r.number 0) refl)
-    where
-      go : (b : Bool) → eqb r.number 0 ≡ b → Held s r.cursor
-      go true e =
-          let due = call_of (layout_for s) s (cursor_place p) c in
-          let fit = same_fits (layout_for s) s (outcome_reply r) due w.0 (returned (layout_for s) s (cursor_place p) c) in
-          λ some. fit (eqb-true r.number 0 e)
-      go false e = rw (w.1.0 (eqb-false r.number 0 e)) (kept_held c)
+  pub goes_on : (c : Call) (r : Result Outcome Fault) →
+      (reply_from (cursor_kept c p) r ≡ call_of (layout_for s) s (cursor_place p) c) × (c ≡ Previous → Again p r) →
+      (reply_from (cursor_kept c p) r ≡ call_of (layout_for s) s (cursor_place p) c) × Held s (cursor_after c p r)
+  goes_on c (Ok o) w =
+      let due = call_of (layout_for s) s (cursor_place p) c in
+      let fit = same_fits (layout_for s) s (outcome_reply o) due w.0 (returned (layout_for s) s (cursor_place p) c) in
+      (w.0, λ some. fit refl)
+  goes_on c (Err f) w = (w.0, kept_held c)

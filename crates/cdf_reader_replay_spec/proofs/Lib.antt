@@ -1,3 +1,4 @@
 pub mod Holding
 pub mod Replaying
+pub mod Hearing
 pub mod Proved

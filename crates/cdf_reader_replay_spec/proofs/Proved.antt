@@ -1,9 +1,5 @@
 -- The claims of this crate, proved.
-use Prim.Native.Nat.{ℕ, zero, suc}
-use mathlib.Core.Path.{◌≡◌, refl, ap, ◌∙◌}
-use mathlib.Core.Bool.{cond}
-use mathlib.Core.List.{List, [], ◌∷◌, ◌++◌}
-use lib.ListN.{length, replicate}
+use Rattle.std.proofs.Common.{ℕ, zero, suc, ◌≡◌, refl, ap, ◌∙◌, cond, List, [], ◌∷◌, ◌++◌, length, replicate}
 use Rattle.cdf_unit_prefix.specs.Layout.{edition_of, layout_for}
 use Rattle.cdf_reader_spec.specs.declared.Call.TheVariants.{Start, Next}
 use Rattle.cdf_reader_plain.specs.Calls.{Told}

@@ -1,29 +1,28 @@
 -- A run of calls, turn by turn: what is told of those done is in the log, and the rest is the run from the place in hand.
-use Prim.Native.Nat.{ℕ, suc, ◌+◌, ◌*◌, ◌-◌, ◌≤◌, ◌<◌}
-use mathlib.Core.Path.{◌≡◌, refl, sym, ap, ◌∙◌}
-use mathlib.Core.Bool.{true, false}
-use mathlib.Core.List.{List, [], ◌∷◌, ◌++◌, append_assoc, append-nil}
-use native.Mathlib.Numerals.{add-one}
-use native.Mathlib.Omega.{arith}
+use Rattle.std.proofs.Common.{ℕ, suc, ◌+◌, ◌*◌, ◌-◌, ◌≤◌, ◌<◌, ◌≡◌, refl, sym, ap, ◌∙◌, true, false, List, [], ◌∷◌, ◌++◌, append_assoc, append-nil}
+use Rattle.std.proofs.Common.{add-one, arith, length, take, drop, get_or, length-append, length-drop, drop_of_length-le, take_at, drop_at, drop-cons}
+use Rattle.std.proofs.Common.{drop-drop}
 use borrow.Rule.Slice.PartMut.{put_mid}
-use lib.ListN.{length, take, drop, get_or, length-append, length-drop, drop_of_length-le}
-use lib.Seq.{take_at, drop_at, drop-cons, drop-drop, append_snoc}
-use Rattle.cdf_unit_table.proofs.Parts.{rest}
+use lib.Seq.{append_snoc}
+use Rattle.std.specs.Prelude.{Result, Ok, Err}
+use Rattle.cdf_refusal.specs.declared.Fault.{Fault}
+use Rattle.cdf_unit_table.proofs.Parts.{minus_plus}
 use Rattle.cdf_unit_prefix.specs.Layout.{layout_for}
 use Rattle.cdf_reader_spec.specs.Place.{ReaderPlace}
 use Rattle.cdf_reader_spec.specs.Calls.{Reply, Part, call_of, part_taken}
 use Rattle.cdf_reader_spec.specs.Slots.{open_units, open_ranks}
 use Rattle.cdf_reader_spec.specs.declared.Call.{Call}
-use Rattle.cdf_reader_cursor.specs.Outcomes.{cursor_place, outcome_reply, no_cursor}
+use Rattle.cdf_reader_cursor.specs.Outcomes.{cursor_place, reply_from, no_cursor}
 use Rattle.cdf_reader_cursor.specs.declared.Cursor.{Cursor}
 use Rattle.cdf_reader_cursor.specs.declared.Outcome.{Outcome}
+use Rattle.cdf_reader_step.specs.Kept.{cursor_kept}
 use Rattle.cdf_reader_plain.specs.Calls.{Told}
 use Rattle.cdf_reader_plain.specs.Runs.{tells, reader_run}
 use Rattle.cdf_reader_plain.proofs.Equations.{telling, reader_none, reader_on}
 use Rattle.cdf_reader_numbers.specs.Taking.{part_by}
 use Rattle.cdf_reader_numbers.proofs.Calling.{taken_is}
 use Rattle.cdf_reader_replay_spec.specs.Replay.{known_code, call_by, calls_of, ran_of, entry_of, entries, log_after}
-use Rattle.cdf_reader_replay_spec.specs.Holding.{Held, told_of}
+use Rattle.cdf_reader_replay_spec.specs.Holding.{Held, cursor_after, number_told, told_of}
 
 -- One more entry,
 entries_more : (ts : List Told) (t : Told) → entries (ts ++ (t ∷ [])) ≡ entries ts ++ entry_of t
@@ -50,80 +49,91 @@ pub calls_none : calls_of [] ≡ []
 unfolding calls_of
 calls_none = refl
 
+-- An outcome or a refusal by its reply.
+number_is : (k : Cursor) (r : Result Outcome Fault) → number_told r ≡ (reply_from k r).number
+number_is k (Ok o) = refl
+number_is k (Err f) = refl
+
+telling_is : (k : Cursor) (r : Result Outcome Fault) (part : Part) → told_of r part ≡ telling (reply_from k r) part
+telling_is k (Ok o) part = refl
+telling_is k (Err f) part = refl
+
+place_is : (call : Call) (c : Cursor) (r : Result Outcome Fault) → (reply_from (cursor_kept call c) r).place ≡ cursor_place (cursor_after call c r)
+place_is call c (Ok o) = refl
+place_is call c (Err f) = refl
+
 module _ (s codes log₀ : List ℕ) where
   -- The run of the rest from the place of a cursor.
   abbrev ahead : Cursor → ℕ → List Told
   ahead c k = reader_run (layout_for s) s (cursor_place c) (calls_of (drop k codes))
 
-  pub record Running (log : List ℕ) (c : Cursor) (k at : ℕ) : Type 0 where
+  pub record Running (log : List ℕ) (c : Cursor) (k : ℕ) : Type 0 where
     pub held : Held s c
     pub within : k ≤ length codes
-    pub eleven : at ≡ 11 * k
     pub done : List Told
     pub count : length done ≡ k
     pub all : ran_of s codes ≡ done ++ ahead c k
     pub is : log ≡ log_after done log₀
 
-  pub long : 11 * length codes ≤ length log₀ → {log : List ℕ} {c : Cursor} {k at : ℕ} → Running log c k at → length log ≡ length log₀
+  pub long : 11 * length codes ≤ length log₀ → {log : List ℕ} {c : Cursor} {k : ℕ} → Running log c k → length log ≡ length log₀
   long room r =
       ap length r.is ∙ simp (length-append, length-drop) (omega (arith, length_entries r.done, r.count, r.within))
 
   -- There is room for one more entry.
-  pub fits_more : 11 * length codes ≤ length log₀ → {log : List ℕ} {c : Cursor} {k at : ℕ} → Running log c k at → k < length codes →
-      at + 11 ≤ length log
-  fits_more room r less = omega (arith, long room r, r.eleven)
+  pub fits_more : 11 * length codes ≤ length log₀ → {log : List ℕ} {c : Cursor} {k : ℕ} → Running log c k → k < length codes →
+      11 * k + 11 ≤ length log
+  fits_more room r less = omega (arith, long room r)
 
-  pub begun : Running log₀ no_cursor 0 0
+  pub begun : Running log₀ no_cursor 0
   unfolding open_units open_ranks entries
-  begun = record { held = λ some. absurd (some refl); within = omega arith; eleven = refl; done = []; count = refl; all = refl; is = refl }
+  begun = record { held = λ some. absurd (some refl); within = omega arith; done = []; count = refl; all = refl; is = refl }
 
   -- What is told of a turn is what the reader tells of its call.
-  told_is : (v : ReaderPlace) (c : Call) (o : Outcome) (part : Part) → outcome_reply o ≡ call_of (layout_for s) s v c →
-      part ≡ part_by c o.number v.last.start v.last.end →
-      told_of o part ≡ tells (layout_for s) s v c
-  told_is v c o part is by =
+  told_is : (v : ReaderPlace) (c : Call) (k : Cursor) (r : Result Outcome Fault) (part : Part) → reply_from k r ≡ call_of (layout_for s) s v c →
+      part ≡ part_by c (number_told r) v.last.start v.last.end →
+      told_of r part ≡ tells (layout_for s) s v c
+  told_is v c k r part is by =
+      let number = number_is k r ∙ ap (λ (x : Reply). x.number) is in
       let taken : part ≡ part_taken (layout_for s) s v c =
-      by ∙ ap (λ (r : Reply). part_by c r.number v.last.start v.last.end) is ∙ sym (taken_is s v c) in
-      ap (telling (outcome_reply o)) taken ∙ ap (λ (r : Reply). telling r (part_taken (layout_for s) s v c)) is
+      by ∙ ap (λ n. part_by c n v.last.start v.last.end) number ∙ sym (taken_is s v c) in
+      telling_is k r part ∙ ap (telling (reply_from k r)) taken ∙ ap (λ (x : Reply). telling x (part_taken (layout_for s) s v c)) is
 
-  module _ {log : List ℕ} {c : Cursor} {k at : ℕ} (r : Running log c k at) where
-    pub on : k < length codes → known_code (get_or codes k 0) ≡ true → (tail : List ℕ) (o : Outcome) (part : Part) →
-        outcome_reply o ≡ call_of (layout_for s) s (cursor_place c) (call_by (get_or codes k 0)) → Held s o.cursor →
-        part ≡ part_by (call_by (get_or codes k 0)) o.number c.last.start c.last.end →
-        tail ≡ entry_of (told_of o part) ++ drop 11 (take (length log - at) (drop at log)) →
-        Running (put_mid at (length log - at) log tail) o.cursor (k + 1) (at + 11)
-    on less known tail o part w held by is =
+  module _ {log : List ℕ} {c : Cursor} {k : ℕ} (r : Running log c k) where
+    pub on : k < length codes → known_code (get_or codes k 0) ≡ true → (q : Result Outcome Fault) (part : Part) →
+        (let call = call_by (get_or codes k 0) in
+        reply_from (cursor_kept call c) q ≡ call_of (layout_for s) s (cursor_place c) call → Held s (cursor_after call c q) →
+        part ≡ part_by call (number_told q) c.last.start c.last.end → (entry : List ℕ) → entry ≡ entry_of (told_of q part) →
+        Running (put_mid (11 * k) (11 * k + 11 - 11 * k) log entry) (cursor_after call c q) (k + 1))
+    on less known q part w held by entry is =
         let code = get_or codes k 0 in
+        let then = cursor_after (call_by code) c q in
+        let at = 11 * k in
         let told = tells (layout_for s) s (cursor_place c) (call_by code) in
         let calls : calls_of (drop k codes) ≡ call_by code ∷ calls_of (drop (suc k) codes) =
         rw (drop-cons codes k 0 less) (calls_known code (drop (suc k) codes) known) in
-        let next : ahead c k ≡ told ∷ ahead o.cursor (suc k) =
+        let next : ahead c k ≡ told ∷ ahead then (suc k) =
         rw calls (reader_on (layout_for s) s (cursor_place c) (call_by code) (calls_of (drop (suc k) codes))
-        ∙ ap (λ (r : Reply). told ∷ reader_run (layout_for s) s r.place (calls_of (drop (suc k) codes))) (sym w)) in
+        ∙ ap (λ (r : Reply). told ∷ reader_run (layout_for s) s r.place (calls_of (drop (suc k) codes))) (sym w)
+        ∙ ap (λ (v : ReaderPlace). told ∷ reader_run (layout_for s) s v (calls_of (drop (suc k) codes))) (place_is (call_by code) c q)) in
         let front = entries r.done in
-        let size : length front ≡ at = omega (arith, length_entries r.done, r.count, r.eleven) in
-        let few : length (drop at log) ≤ length log - at = simp length-drop (omega arith) in
-        let none : drop (length log - at) (drop at log) ≡ [] = drop_of_length-le (drop at log) few in
-        let kept : take at log ≡ front = rw r.is (take_at front (drop (11 * length r.done) log₀) at size) in
         let old = drop (11 * length r.done) log₀ in
-        let cut : drop 11 (take (length log - at) (drop at log)) ≡ drop (11 * length r.done + 11) log₀ =
-        rw (rest at log) (ap (λ l. drop 11 (drop at l)) r.is ∙ ap (drop 11) (drop_at front old at size) ∙ drop-drop 11 (11 * length r.done) log₀) in
-        let placed : put_mid at (length log - at) log tail ≡ front ++ (entry_of told ++ drop (11 * length r.done + 11) log₀) =
-        ap (λ l. l ++ (tail ++ drop (length log - at) (drop at log))) kept
-        ∙ ap (λ l. front ++ (tail ++ l)) none
-        ∙ ap (λ l. front ++ l)
-        (append-nil tail ∙ is ∙ ap (λ e. e ++ drop 11 (take (length log - at) (drop at log))) (ap entry_of (told_is (cursor_place c) (call_by code) o part w by))
-        ∙ ap (λ l. entry_of told ++ l) cut) in
+        let size : length front ≡ at = omega (arith, length_entries r.done, r.count) in
+        let kept : take at log ≡ front = rw r.is (take_at front old at size) in
+        let cut : drop (at + 11 - at) (drop at log) ≡ drop (11 * length r.done + 11) log₀ =
+        rw (minus_plus 11 at) (ap (λ l. drop 11 (drop at l)) r.is ∙ ap (drop 11) (drop_at front old at size) ∙ drop-drop 11 (11 * length r.done) log₀) in
+        let same : told_of q part ≡ told = told_is (cursor_place c) (call_by code) (cursor_kept (call_by code) c) q part w by in
         let more : 11 * length (r.done ++ (told ∷ [])) ≡ 11 * length r.done + 11 = simp length-append (omega arith) in
         record {
           held = held;
           within = omega arith;
-          eleven = omega (arith, r.eleven);
           done = r.done ++ (told ∷ []);
           count = simp length-append (omega (arith, r.count));
-          all = rw add-one (r.all ∙ ap (λ ts. r.done ++ ts) next ∙ sym (append_snoc r.done told (ahead o.cursor (suc k))));
+          all = rw add-one (r.all ∙ ap (λ ts. r.done ++ ts) next ∙ sym (append_snoc r.done told (ahead then (suc k))));
           is =
-              placed ∙ sym (append_assoc front (entry_of told) (drop (11 * length r.done + 11) log₀))
+              ap (λ l. l ++ (entry ++ drop (at + 11 - at) (drop at log))) kept
+              ∙ ap (λ l. front ++ (entry ++ l)) cut
+              ∙ ap (λ l. front ++ (l ++ drop (11 * length r.done + 11) log₀)) (is ∙ ap entry_of same)
+              ∙ sym (append_assoc front (entry_of told) (drop (11 * length r.done + 11) log₀))
               ∙ ap (λ es. es ++ drop (11 * length r.done + 11) log₀) (sym (entries_more r.done told))
               ∙ ap (λ n. entries (r.done ++ (told ∷ [])) ++ drop n log₀) (sym more);
         }

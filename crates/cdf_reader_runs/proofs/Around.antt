@@ -1,12 +1,7 @@
 -- Open units that lie in one another and have a position in the innermost: when a place with them fits.
-use Prim.Native.Nat.{ℕ, suc, ◌+◌, ◌*◌, ◌≤◌}
-use mathlib.Core.Path.{◌≡◌, refl, ap}
-use mathlib.Core.Bool.{Bool, true, false, cond, false≢true}
-use mathlib.Core.List.{List, [], ◌∷◌}
-use native.Mathlib.Omega.{arith}
-use borrow.Author.Tests.{leb-true, le-leb, eq-eqb, eqb-true}
-use lib.Dec.{leb, eqb}
-use lib.ListN.{length}
+use Rattle.std.proofs.Common.{ℕ, suc, ◌+◌, ◌*◌, ◌≤◌, ◌≡◌, refl, ap, Bool, true, false, cond, List, [], ◌∷◌, arith, leb-true, le-leb, eq-eqb, eqb-true}
+use Rattle.std.proofs.Common.{leb, eqb, length}
+use Rattle.std.proofs.lemmas.Bool.{false≢true}
 use Rattle.cdf_unit_table.specs.States.{unit_of, nothing, opens, complete, admits_kind}
 use Rattle.cdf_unit_table.proofs.Bools.{both, of_cond}
 use Rattle.cdf_unit_table.proofs.Heights.{opens_lower}

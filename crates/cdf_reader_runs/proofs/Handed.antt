@@ -1,12 +1,7 @@
 -- How many units come of a start and nexts: each takes a prefix at least.
-use Prim.Native.Nat.{ℕ, zero, suc, ◌*◌, ◌≤◌, ◌<◌}
-use mathlib.Core.Path.{◌≡◌, refl, ap, sym, ◌∙◌}
-use mathlib.Core.List.{List, [], ◌∷◌}
-use native.Mathlib.Omega.{arith}
-use native.Mathlib.Nat.{mul-le-mul_right}
-use borrow.Author.Tests.{eqb-true, eqb-false}
-use lib.Dec.{eqb}
-use lib.ListN.{length, length-map}
+use Rattle.std.proofs.Common.{ℕ, zero, suc, ◌*◌, ◌≤◌, ◌<◌, ◌≡◌, refl, ap, sym, ◌∙◌, List, [], ◌∷◌, arith, mul-le-mul_right, eqb-true, eqb, length}
+use Rattle.std.proofs.lemmas.Bool.{eqb-false}
+use Rattle.std.proofs.lemmas.List.{length-map}
 use Rattle.cdf_unit_table.proofs.Bools.{of_cond, clash}
 use Rattle.cdf_unit_prefix.specs.Layout.{Layout, prefix_of}
 use Rattle.cdf_unit_list.specs.Units.{End, listing}
@@ -26,7 +21,7 @@ use Rattle.cdf_reader_runs.proofs.Steps.{Run, ends, breaks, hands, listed}
 use Rattle.cdf_reader_runs.proofs.Readings.{reading_first, reading_next, reads}
 
 -- Past the last unit the number is not 0.
-afterwards_none : (a : Verdict) → (afterwards a).number ≡ 0 → ⊥
+pub afterwards_none : (a : Verdict) → (afterwards a).number ≡ 0 → ⊥
 unfolding afterwards
 afterwards_none a =
     of_cond (λ (t : Outcome). t.number ≡ 0 → ⊥) (eqb a.number 0) _ (record { number = a.number; offset = a.value; handed = no_ranked })

@@ -1,17 +1,11 @@
 -- The place in which a call leaves the reader that handed out a unit fits the bytes.
-use Prim.Native.Nat.{ℕ, ◌+◌, ◌-◌, ◌≤◌}
-use mathlib.Core.Path.{◌≡◌, refl, sym, ◌∙◌}
-use mathlib.Core.Bool.{Bool, true, false, false≢true}
-use mathlib.Core.List.{List, [], ◌∷◌}
-use native.Mathlib.Omega.{arith}
-use borrow.Author.Tests.{eq-eqb}
-use lib.ListN.{length, take, drop, length-take, length-drop}
+use Rattle.std.proofs.Common.{ℕ, ◌+◌, ◌-◌, ◌≤◌, ◌≡◌, refl, sym, ◌∙◌, Bool, true, false, List, [], ◌∷◌, arith, eq-eqb, length, take, drop, length-take}
+use Rattle.std.proofs.Common.{length-drop}
+use Rattle.std.proofs.lemmas.Bool.{false≢true}
 use Rattle.cdf_unit_table.proofs.Rows.{admits_root, admit_kind, root_kind_lem, opens_by}
 use Rattle.cdf_unit_table.proofs.Heights.{falls, opens_lower}
 use Rattle.cdf_unit_prefix.specs.Layout.{Layout}
-use Rattle.cdf_unit_judge.specs.Judge.{judge_of}
-use Rattle.cdf_unit_judge.specs.declared.Judged.{Judged}
-use Rattle.cdf_unit_judge.specs.declared.Judged.TheVariants.{Fault, Found}
+use Rattle.cdf_unit_judge.specs.Judge.{judge_of, Judged, Fault, Found}
 use Rattle.cdf_unit_judge.proofs.Faults.{told}
 use Rattle.cdf_unit_judge.proofs.Placed.{Placed, placed}
 use Rattle.cdf_unit_list.specs.Stack.{Closing, incomplete, left, close, Step, done, refused, found, entered, with_state, step_in, step, step_by, step_in_by}
@@ -22,8 +16,7 @@ use Rattle.cdf_reader_spec.specs.Place.{ReaderPlace, nested, fits}
 use Rattle.cdf_reader_spec.specs.Calls.{empty_place, place_at}
 use Rattle.cdf_reader_spec.specs.Tests.{chain}
 use Rattle.cdf_reader_runs.proofs.Ranking.{Ranked, empty_ranked, fitting_ranked}
-use Rattle.cdf_reader_runs.proofs.Around.{Around, OfClosing, Enters, lies, position_in, chain_on, with_state_lem}
-use Rattle.cdf_reader_runs.proofs.Around.{close_held, fitting_held, enters_fit}
+use Rattle.cdf_reader_runs.proofs.Around.{Around, OfClosing, Enters, lies, position_in, chain_on, with_state_lem, close_held, fitting_held, enters_fit}
 
 module _ (l : Layout) (s : List ℕ) where
   -- Of a step from a place: a refusal's number is not 0, and after a unit that is found the place fits.

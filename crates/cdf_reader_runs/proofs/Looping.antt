@@ -1,11 +1,7 @@
 -- A loop of a start and nexts, turn by turn: which units were handed out before, the last one first, where the reader stands behind them, and
 -- which units come. Every loop over a stream cites it.
-use Prim.Native.Nat.{ℕ, suc, ◌+◌, ◌≤◌}
-use mathlib.Core.Path.{◌≡◌, refl, ◌∙◌}
-use mathlib.Core.Bool.{true, cond}
-use mathlib.Core.List.{List, [], ◌∷◌, reverse, reverse_aux}
-use native.Mathlib.Omega.{arith}
-use lib.ListN.{length}
+use Rattle.std.proofs.Common.{ℕ, suc, ◌+◌, ◌≤◌, ◌≡◌, refl, ◌∙◌, true, cond, List, [], ◌∷◌, reverse, arith, length}
+use mathlib.Core.List.{reverse_aux}
 use Rattle.cdf_unit_table.specs.States.{opens}
 use Rattle.cdf_unit_prefix.specs.Layout.{Layout, prefix_of}
 use Rattle.cdf_unit_list.specs.Units.{after, Next, End, ended, fault, listing}

@@ -1,12 +1,6 @@
 -- The ranks to which a place leads: as many as units are left open, and none too high for the next position.
-use Prim.Native.Nat.{ℕ, suc, ◌+◌, ◌*◌, ◌≤◌}
-use mathlib.Core.Path.{◌≡◌, refl}
-use mathlib.Core.Bool.{Bool, true, false, cond, ◌&&◌}
-use mathlib.Core.List.{List, [], ◌∷◌}
-use native.Mathlib.Omega.{arith}
-use borrow.Author.Tests.{leb-true, le-leb}
-use lib.Dec.{leb, eqb}
-use lib.ListN.{length}
+use Rattle.std.proofs.Common.{ℕ, suc, ◌+◌, ◌*◌, ◌≤◌, ◌≡◌, refl, Bool, true, false, cond, ◌&&◌, List, [], ◌∷◌, arith, leb-true, le-leb, leb, eqb}
+use Rattle.std.proofs.Common.{length}
 use Rattle.cdf_unit_table.specs.States.{complete}
 use Rattle.cdf_unit_table.proofs.Bools.{both, clash}
 use Rattle.cdf_unit_prefix.specs.Layout.{Layout, prefix_of}

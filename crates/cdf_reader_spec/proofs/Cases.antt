@@ -1,13 +1,7 @@
 -- Where closing leaves a unit open, either none ends at the position or one is the outermost that does.
-use Prim.Native.Nat.{ℕ, ◌+◌}
-use mathlib.Core.Path.{◌≡◌, refl, sym, ◌∙◌}
-use mathlib.Core.Bool.{Bool, true, false, cond}
-use mathlib.Core.Logic.{◌⊎◌, inl, inr}
-use mathlib.Core.List.{List, [], ◌∷◌, ◌++◌, append_assoc}
-use native.Mathlib.Omega.{arith}
-use borrow.Author.Tests.{eqb-true, eqb-false, eq-eqb}
-use lib.Dec.{eqb}
-use lib.ListN.{length, length-append}
+use Rattle.std.proofs.Common.{ℕ, ◌+◌, ◌≡◌, refl, sym, ◌∙◌, Bool, true, false, cond, ◌⊎◌, inl, inr, List, [], ◌∷◌, ◌++◌, append_assoc, arith, eqb-true}
+use Rattle.std.proofs.Common.{eq-eqb, eqb, length, length-append}
+use Rattle.std.proofs.lemmas.Bool.{eqb-false}
 use Rattle.cdf_unit_table.specs.States.{complete}
 use Rattle.cdf_unit_table.proofs.Bools.{clash}
 use Rattle.cdf_unit_list.specs.Stack.{incomplete, left, close}

@@ -1,12 +1,6 @@
 -- Closing by ends alone: which ranks it leaves, and which rank is next, where units end at the position and where none does.
-use Prim.Native.Nat.{ℕ, suc, ◌≤◌}
-use mathlib.Core.Path.{◌≡◌, refl, sym, ◌∙◌}
-use mathlib.Core.Bool.{Bool, true, false, cond, ◌&&◌}
-use mathlib.Core.List.{List, [], ◌∷◌, ◌++◌}
-use native.Mathlib.Omega.{arith}
-use borrow.Author.Tests.{leb-true, eq-eqb, ne_eqb}
-use lib.Dec.{leb, eqb}
-use lib.ListN.{length}
+use Rattle.std.proofs.Common.{ℕ, suc, ◌≤◌, ◌≡◌, refl, sym, ◌∙◌, Bool, true, false, cond, ◌&&◌, List, [], ◌∷◌, ◌++◌, arith, leb-true, eq-eqb, ne_eqb}
+use Rattle.std.proofs.Common.{leb, eqb, length}
 use Rattle.cdf_unit_table.specs.States.{complete}
 use Rattle.cdf_unit_table.proofs.Bools.{both, clash}
 use Rattle.cdf_unit_prefix.specs.Layout.{Layout}

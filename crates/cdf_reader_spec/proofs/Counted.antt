@@ -1,8 +1,8 @@
 -- As many units are open as a count says, and where some are, the innermost comes first.
-use Prim.Native.Nat.{ℕ, zero, suc}
-use mathlib.Core.Path.{◌≡◌, refl, ap}
-use mathlib.Core.List.{List, ◌∷◌}
-use lib.ListN.{length}
+use Rattle.std.proofs.Common.{ℕ, zero, suc, ◌≡◌, refl, ap, List, ◌∷◌, arith, ne_eqb, length}
+use Rattle.std.specs.Option.{unwrap_or}
+use Rattle.cdf_open_units.specs.Around.{around as unit_around}
+use Rattle.cdf_open_units.specs.declared.OpenUnits.{OpenUnits}
 use Rattle.cdf_unit_list.specs.declared.Open.{Open}
 use Rattle.cdf_reader_spec.specs.Slots.{slot_of, around_of, held_of, around, open_units}
 
@@ -21,6 +21,25 @@ pub inner_held : {A : Type 0} (none o1 o2 o3 : A) (k : ℕ) → around_of none o
 unfolding held_of
 inner_held none o1 o2 o3 zero = refl
 inner_held none o1 o2 o3 (suc k) = refl
+
+-- The same by the unit around the innermost.
+pub next_held : {A : Type 0} (none : A) (u : OpenUnits A) (k : ℕ) →
+    around_of none u.o1 u.o2 u.o3 k ≡ held_of none k (unwrap_or (unit_around u (suc k)) none) u.o1 u.o2 u.o3
+unfolding held_of around_of
+next_held none u zero = refl
+next_held none u (suc zero) = refl
+next_held none u (suc (suc zero)) = refl
+next_held none u (suc (suc (suc zero))) = refl
+next_held none u (suc (suc (suc (suc k)))) =
+    let level : ℕ = suc (suc (suc (suc k))) in
+    rw (
+      ne_eqb level 1 (λ e. omega arith),
+      ne_eqb level 2 (λ e. omega arith),
+      ne_eqb level 3 (λ e. omega arith),
+      ne_eqb (suc level) 2 (λ e. omega arith),
+      ne_eqb (suc level) 3 (λ e. omega arith),
+      ne_eqb (suc level) 4 (λ e. omega arith),
+    )
 
 pub length_open : (count : ℕ) (top o1 o2 o3 : Open) → length (open_units count top o1 o2 o3) ≡ count
 unfolding open_units

@@ -1,11 +1,7 @@
 -- A place that fits, clause by clause as facts.
-use Prim.Native.Nat.{ℕ, ◌+◌, ◌*◌, ◌≤◌}
-use mathlib.Core.Path.{◌≡◌, refl}
-use mathlib.Core.Bool.{Bool, true, false, not, ◌&&◌, ◌||◌, false≢true}
-use mathlib.Core.List.{List, ◌∷◌}
-use borrow.Author.Tests.{leb-true, le-leb, eqb-true, eq-eqb}
-use lib.Dec.{leb, eqb}
-use lib.ListN.{length}
+use Rattle.std.proofs.Common.{ℕ, ◌+◌, ◌*◌, ◌≤◌, ◌≡◌, refl, Bool, true, false, not, ◌&&◌, ◌||◌, List, ◌∷◌, leb-true, le-leb, eqb-true, eq-eqb, leb}
+use Rattle.std.proofs.Common.{eqb, length}
+use Rattle.std.proofs.lemmas.Bool.{false≢true}
 use Rattle.cdf_unit_table.specs.States.{unit_of, root_kind, admits_kind}
 use Rattle.cdf_unit_table.proofs.Bools.{both}
 use Rattle.cdf_unit_prefix.specs.Layout.{Layout, prefix_of}

@@ -1,5 +1,5 @@
 -- The claims of this crate, proved.
-use mathlib.Core.Path.{◌≡◌, refl}
+use Rattle.std.proofs.Common.{◌≡◌, refl}
 use Rattle.cdf_unit_table.specs.States.{unit_of, root_kind, admits_kind, nothing, complete}
 use Rattle.cdf_reader_spec.specs.Place.{nested, every, positioned, at_last, clauses}
 use Rattle.cdf_reader_spec.specs.NearMisses.{misses_found, misses_due, eighth_found, eighth_due}

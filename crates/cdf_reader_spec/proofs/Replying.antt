@@ -1,12 +1,5 @@
 -- The calls over steps. To unfold a call would unfold the judge and the rows too, so these equations stand for that.
-use Prim.Native.Nat.{ℕ, ◌-◌}
-use mathlib.Core.Path.{◌≡◌, refl}
-use mathlib.Core.Bool.{Bool, true, not, cond, ◌&&◌}
-use mathlib.Core.List.{List, []}
-use native.Mathlib.Omega.{arith}
-use borrow.Author.Tests.{ne_eqb}
-use lib.Dec.{eqb}
-use lib.ListN.{length}
+use Rattle.std.proofs.Common.{ℕ, ◌-◌, ◌≡◌, refl, Bool, true, not, cond, ◌&&◌, List, [], arith, ne_eqb, eqb, length}
 use Rattle.cdf_unit_prefix.specs.Layout.{Layout}
 use Rattle.cdf_unit_judge.specs.Judge.{judge_of}
 use Rattle.cdf_unit_list.specs.Stack.{Step, found, entered, step}

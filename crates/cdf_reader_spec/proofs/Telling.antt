@@ -1,19 +1,11 @@
 -- Depth and rank that the calls tell, of any place, from what starts and ends where.
-use Prim.Native.Nat.{ℕ, suc, ◌+◌, ◌-◌, ◌≤◌}
-use mathlib.Core.Path.{◌≡◌, refl, sym, ◌∙◌, ap}
-use mathlib.Core.Bool.{Bool, true, false, cond, not, ◌&&◌}
-use mathlib.Core.Logic.{◌⊎◌}
-use mathlib.Core.List.{List, [], ◌∷◌, ◌++◌}
-use native.Mathlib.Omega.{arith}
-use borrow.Author.Tests.{leb-true, eq-eqb, ne_eqb, not-false}
-use lib.Dec.{leb}
-use lib.ListN.{length, take, drop}
+use Rattle.std.proofs.Common.{ℕ, suc, ◌+◌, ◌-◌, ◌≤◌, ◌≡◌, refl, sym, ◌∙◌, ap, Bool, true, false, cond, not, ◌&&◌, ◌⊎◌, List, [], ◌∷◌, ◌++◌, arith}
+use Rattle.std.proofs.Common.{leb-true, eq-eqb, ne_eqb, leb, length, take, drop}
+use Rattle.std.proofs.lemmas.Bool.{not-false}
 use Rattle.cdf_unit_table.specs.States.{opens}
 use Rattle.cdf_unit_table.proofs.Bools.{both, of_cond}
 use Rattle.cdf_unit_prefix.specs.Layout.{Layout, prefix_of}
-use Rattle.cdf_unit_judge.specs.Judge.{judge_of}
-use Rattle.cdf_unit_judge.specs.declared.Judged.{Judged}
-use Rattle.cdf_unit_judge.specs.declared.Judged.TheVariants.{Fault, Found}
+use Rattle.cdf_unit_judge.specs.Judge.{judge_of, Judged, Fault, Found}
 use Rattle.cdf_unit_judge.proofs.Faults.{told}
 use Rattle.cdf_unit_list.specs.Units.{after}
 use Rattle.cdf_unit_list.specs.Stack.{Closing, incomplete, left, close, opened, entered, with_state, step_in, step, step_by, step_in_by}
@@ -226,7 +218,7 @@ depth_passed p = go p.units
     go [] = refl
     go (o ∷ os) = refl
 
-handed_passed : (p : ReaderPlace) → handed_at (passed p) ≡ handed_at p
+pub handed_passed : (p : ReaderPlace) → handed_at (passed p) ≡ handed_at p
 unfolding handed_at passed
 handed_passed p = ap (λ d. record { unit = p.last; depth = d; rank = p.last_rank }) (depth_passed p)
 

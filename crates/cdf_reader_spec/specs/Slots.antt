@@ -1,6 +1,7 @@
 -- Which place of document 01 a struct is. It holds the innermost open unit by itself and the units around it by their level; a
 -- unit that it has no room for is one of zeros, so that every count means some place.
 use Rattle.std.specs.Prelude.{ℕ, zero, suc, Bool, cond, List, [], ◌∷◌, eqb}
+use Rattle.cdf_open_units.specs.declared.OpenUnits.{OpenUnits}
 use Rattle.cdf_unit_list.specs.declared.Unit.{Unit}
 use Rattle.cdf_unit_list.specs.declared.Open.{Open}
 use Rattle.cdf_reader_spec.specs.Place.{ReaderPlace}
@@ -36,6 +37,13 @@ around o1 o2 o3 k = around_of no_open o1 o2 o3 k
 unfoldable pub open_units : ℕ → Open → Open → Open → Open → List Open
 unfolding around held_of
 open_units count top o1 o2 o3 = held_of no_open count top o1 o2 o3
+
+-- Those that a struct holds, and a struct of none: zeros.
+abbrev pub opened : OpenUnits Open → List Open
+opened u = open_units u.count u.top u.o1 u.o2 u.o3
+
+abbrev pub no_units : OpenUnits Open
+no_units = record { count = 0; top = no_open; o1 = no_open; o2 = no_open; o3 = no_open }
 
 -- The ranks of no units: zeros.
 abbrev pub no_ranks : Ranks

@@ -12,8 +12,9 @@ pub enum Call {
     Previous,
 }
 
-// The ranks that a place carries: of the innermost open unit, of those around it from the outermost inwards, and of the last unit.
-#[derive(Clone, Copy)]
+// The ranks that a place carries: of the innermost open unit, of those around it from the outermost inwards, and of the last unit. They stand
+// beside the open units, since the definitions and a place's numbers have them so, and a builder's units have none.
+#[derive(Clone, Copy, Default)]
 pub struct Ranks {
     pub top: usize,
     pub r1: usize,

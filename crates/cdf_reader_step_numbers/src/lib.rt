@@ -9,16 +9,19 @@ ghost use Rattle.cdf_reader.specs.Cursors.{cursor_of, place_with};
 ghost use Rattle.cdf_reader_numbers.specs.Numbers.{place_from, numbers_of};
 ghost use Rattle.cdf_reader_step_numbers.specs.Numbered.{Stepped, step_due};
 
+use cdf_open_units::{Left, OpenUnits};
 use cdf_reader::Place;
 use cdf_reader_close::rank_at;
 use cdf_reader_numbers::{place_from, write_place};
 use cdf_reader_spec::Ranks;
 use cdf_reader_turn::turn;
 use cdf_unit_list::{Open, Ranked};
+use cdf_unit_own::Published;
 use cdf_unit_prefix::Edition;
 use cdf_unit_table::first_state;
 
-// Writes an answer that tells a refusal.
+// Writes an answer that tells a refusal. This and `hand` write by themselves: by the one `write_answer` of the other calls `cdf_next` takes 1 to 3 % more
+// instructions.
 fn refuse(offset: usize, a: &mut [u64; 10])
     ensures { a.new ≡ (offset ∷ 0 ∷ 0 ∷ 0 ∷ 0 ∷ 0 ∷ 0 ∷ 0 ∷ 0 ∷ 0 ∷ []) }
 {
@@ -43,97 +46,107 @@ fn hand(h: Ranked, a: &mut [u64; 10])
     ];
 }
 
-// Writes the place in a unit that admits others and is in its first state, the innermost of so many; these are around it, with their ranks.
+// Writes the place in a unit that admits others and is in its first state: the innermost of these units, whatever stood there, and so of the ranks.
 fn write_inside(
     handed: Ranked,
     first: usize,
-    count: usize,
-    o1: Open,
-    o2: Open,
-    o3: Open,
-    r1: usize,
-    r2: usize,
-    r3: usize,
+    units: OpenUnits<Open>,
+    ranks: Ranks,
     a: &mut [u64; 25],
 )
-    ensures { a.new ≡ numbers_of (place_with (inside handed first count o1 o2 o3 r1 r2 r3)) }
+    ensures { a.new
+        ≡ numbers_of (place_with (inside handed first units.count units.o1 units.o2 units.o3 ranks.r1 ranks.r2 ranks.r3)) }
 {
     let last = handed.unit;
-    let top = Open {
-        state: first,
-        start: last.start,
-        end: last.end,
-    };
-    let ranks = Ranks {
-        top: handed.rank,
-        r1,
-        r2,
-        r3,
-        last: handed.rank,
-    };
-    let q = Place {
+    let place = Place {
         position: last.own,
-        count,
-        top,
-        o1,
-        o2,
-        o3,
+        units: OpenUnits {
+            top: Open {
+                state: first,
+                start: last.start,
+                end: last.end,
+            },
+            ..units
+        },
         last,
         fresh: true,
-        ranks,
+        ranks: Ranks {
+            top: handed.rank,
+            last: handed.rank,
+            ..ranks
+        },
     };
-    write_place(q, a);
+    write_place(place, a);
 }
 
-// Writes the place behind a unit that is handed out in the innermost of the `count` units left open. The place is read here again, and in each
+// Writes the place behind a unit that is handed out in the innermost of the units left open. The place is read here again, and in each
 // branch the numbers that stay are those just read: the compiler then leaves out to write them.
-fn enter(count: usize, top: Open, handed: Ranked, next: usize, a: &mut [u64; 25])
-    ensures { a.new ≡ numbers_of (place_with (entering (cursor_of (place_from a.old)) count top handed next).cursor) }
+// A struct written back costs `cdf_next` its speed.
+fn enter(left: Left<Open>, handed: Ranked, next: usize, a: &mut [u64; 25])
+    ensures { a.new ≡ numbers_of (place_with (entering (cursor_of (place_from a.old)) left.count left.top handed next).cursor) }
 {
+    let Left { count, top } = left;
     let p = place_from(a);
     let last = handed.unit;
     let old = p.ranks;
-    let outer = Open {
-        state: next,
-        start: top.start,
-        end: top.end,
-    };
-    let o1 = p.o1;
-    let o2 = p.o2;
-    let o3 = p.o3;
-    let around = rank_at(count, p.count, old);
-    let first = first_state(last.id);
-    if first == 0 {
-        let ranks = Ranks {
-            top: around,
-            r1: old.r1,
-            r2: old.r2,
-            r3: old.r3,
-            last: handed.rank,
-        };
-        let q = Place {
+    let outer = Open { state: next, ..top };
+    let around = rank_at(count, p.units.count, old);
+    let Some(first) = first_state(last.id) else {
+        let behind = Place {
             position: last.end,
-            count,
-            top: outer,
-            o1,
-            o2,
-            o3,
+            units: OpenUnits {
+                count,
+                top: outer,
+                ..p.units
+            },
             last,
             fresh: false,
-            ranks,
+            ranks: Ranks {
+                top: around,
+                last: handed.rank,
+                ..old
+            },
+            ..p
         };
-        write_place(q, a);
+        write_place(behind, a);
         return;
+    };
+    let units = p.units;
+    match count {
+        1 => write_inside(
+            handed,
+            first,
+            OpenUnits {
+                count: 2,
+                o1: outer,
+                ..units
+            },
+            Ranks { r1: around, ..old },
+            a,
+        ),
+        2 => write_inside(
+            handed,
+            first,
+            OpenUnits {
+                count: 3,
+                o2: outer,
+                ..units
+            },
+            Ranks { r2: around, ..old },
+            a,
+        ),
+        _ => write_inside(
+            handed,
+            first,
+            OpenUnits {
+                count: 4,
+                o3: outer,
+                ..units
+            },
+            Ranks { r3: around, ..old },
+            a,
+        ),
     }
-    if count == 1 {
-        write_inside(handed, first, 2, outer, o2, o3, around, old.r2, old.r3, a);
-        return;
-    }
-    if count == 2 {
-        write_inside(handed, first, 3, o1, outer, o3, old.r1, around, old.r3, a);
-        return;
-    }
-    write_inside(handed, first, 4, o1, o2, outer, old.r1, old.r2, around, a);
 }
 
 // A step at any numbers: the number; the answer's numbers are written always, the place's beside 0 alone.
@@ -141,16 +154,15 @@ pub fn step_at(edition: Edition, s: &[u8], place: &mut [u64; 25], answer: &mut [
     ensures { Stepped (step_due (layout_of edition) s.now place.old)
         place.old result place.new answer.new }
 {
-    let p = place_from(place);
-    let c = p.cursor();
-    let t = turn(c, edition, s);
-    if t.number != 0 {
-        refuse(t.offset, answer);
-        return t.number as u64;
+    match turn(&Published, place_from(place).cursor(), edition, s) {
+        Err(fault) => {
+            refuse(fault.offset, answer);
+            fault.refusal.number() as u64
+        }
+        Ok(found) => {
+            enter(found.left, found.handed, found.next, place);
+            hand(found.handed, answer);
+            0
+        }
     }
-    let inner = t.inner;
-    let handed = t.handed;
-    enter(t.count, inner, handed, t.next, place);
-    hand(handed, answer);
-    0
 }

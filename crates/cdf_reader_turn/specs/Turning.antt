@@ -1,12 +1,12 @@
--- What a turn comes to at its cursor.
-use Rattle.std.specs.Prelude.{cond, eqb}
-use Rattle.cdf_reader_cursor.specs.Outcomes.{refusal}
+-- What a turn comes to.
+use Rattle.std.specs.Prelude.{Result, Ok, Err}
+use Rattle.cdf_refusal.specs.declared.Fault.{Fault}
 use Rattle.cdf_reader_cursor.specs.Entering.{entering}
 use Rattle.cdf_reader_cursor.specs.declared.Cursor.{Cursor}
 use Rattle.cdf_reader_cursor.specs.declared.Outcome.{Outcome}
 use Rattle.cdf_reader_turn.specs.declared.Reading.{Reading}
 
--- Beside 0 the unit is entered; any other number is a refusal, which leaves the cursor.
-abbrev pub turned : Cursor → Reading → Outcome
-turned c t =
-    cond (eqb t.number 0) (entering c t.count t.inner t.handed t.next) (refusal t.number t.offset c)
+-- The unit is entered.
+abbrev pub turned : Cursor → Result Reading Fault → Result Outcome Fault
+turned c (Ok t) = Ok (entering c t.left.count t.left.top t.handed t.next)
+turned c (Err f) = Err f

@@ -1,18 +1,13 @@
 -- What the call leaves: the place's numbers as they were, or those of the new place.
-use Prim.Native.Nat.{ℕ}
-use mathlib.Core.Path.{◌≡◌, refl, sym, ap, ◌∙◌}
-use mathlib.Core.List.{List, [], ◌∷◌}
-use native.Mathlib.Omega.{arith}
-use lib.ListN.{length}
+use Rattle.std.proofs.Common.{ℕ, ◌≡◌, refl, sym, ap, ◌∙◌, List, [], ◌∷◌, arith, length}
+use Rattle.std.proofs.lemmas.List.{nil_from_length}
 use Rattle.cdf_reader.specs.View.{view}
 use Rattle.cdf_reader_numbers.specs.Numbers.{place_from, numbers_of}
 use Rattle.cdf_reader_numbers.proofs.Written.{read_again}
-use Rattle.cdf_reader_units.specs.Filling.{Fills}
-use Rattle.cdf_reader_units.specs.declared.Filled.{Filled}
+use Rattle.cdf_reader_units.specs.Filling.{Told, Fills}
 use Rattle.cdf_reader_units_c.specs.Batched.{batch_to, Batched}
-use Rattle.cdf_reader_units_c.proofs.Reading.{no_units}
 
-module _ {s before list : List ℕ} {f : Filled} {listed : List ℕ} (w : Fills s (place_from before) list f listed) where
+module _ {s before list : List ℕ} {f : Told} {listed : List ℕ} (w : Fills s (place_from before) list f listed) where
   -- No unit was handed out: the numbers stay.
   pub leaves_old : f.count ≡ 0 → Batched s before list f.number before listed (f.offset ∷ f.count ∷ [])
   leaves_old z = record {
@@ -20,7 +15,7 @@ module _ {s before list : List ℕ} {f : Filled} {listed : List ℕ} (w : Fills 
     answers = rw (w.offset, w.count);
     moves = sym (ap view (w.kept z)) ∙ w.place;
     stays = λ e. refl;
-    written = λ some. absurd (some (no_units (batch_to s before list).units (omega (arith, sym w.count ∙ z))));
+    written = λ some. absurd (some (nil_from_length (batch_to s before list).units (omega (arith, sym w.count ∙ z))));
     fills = w.list;
   }
 

@@ -1,10 +1,5 @@
 -- The claims of this crate, proved.
-use Prim.Native.Nat.{ℕ, suc, ◌*◌, ◌/◌}
-use mathlib.Core.Path.{◌≡◌, refl, sym, ap, ◌∙◌}
-use mathlib.Core.List.{List, [], ◌∷◌}
-use native.Mathlib.Omega.{arith}
-use lib.ListN.{length, take, drop, get_or}
-use lib.Seq.{take_at, drop_at}
+use Rattle.std.proofs.Common.{ℕ, suc, ◌*◌, ◌/◌, ◌≡◌, refl, sym, ap, ◌∙◌, List, [], ◌∷◌, arith, length, take, drop, get_or, take_at, drop_at}
 use Rattle.cdf_unit_prefix.specs.Layout.{layout_for}
 use Rattle.cdf_unit_list.specs.Ranks.{ranked_units}
 use Rattle.cdf_unit_list.specs.declared.Ranked.{Ranked}

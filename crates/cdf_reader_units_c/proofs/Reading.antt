@@ -1,22 +1,13 @@
 -- Batches one behind the other, where each tells the front of a list of units.
-use Prim.Native.Nat.{ℕ, zero, suc, ◌+◌, ◌≤◌, ◌<◌}
-use mathlib.Core.Path.{◌≡◌, refl, sym, ap, ◌∙◌}
-use mathlib.Core.Bool.{Bool, true, false}
-use mathlib.Core.List.{List, [], ◌∷◌}
-use native.Mathlib.Omega.{arith}
-use borrow.Author.Tests.{leb-true, leb-false}
-use lib.Dec.{leb}
-use lib.ListN.{length, take, drop, drop_of_length-le}
-use lib.Seq.{take-nil, take-add, drop_at, length-take-le}
+use Rattle.std.proofs.Common.{ℕ, zero, suc, ◌+◌, ◌<◌, ◌≡◌, refl, sym, ap, ◌∙◌, Bool, true, false, List, [], arith, leb-true, leb-false, leb, length}
+use Rattle.std.proofs.Common.{take, drop, drop_of_length-le, take-add, drop_at, length-take-le}
+use lib.Seq.{take-nil}
+use Rattle.std.proofs.lemmas.List.{nil_from_length}
 use Rattle.cdf_unit_prefix.specs.Layout.{Layout}
 use Rattle.cdf_unit_list.specs.declared.Ranked.{Ranked}
 use Rattle.cdf_reader_spec.specs.Place.{ReaderPlace}
 use Rattle.cdf_reader_units_spec.specs.Batch.{Batch, batch_of}
 use Rattle.cdf_reader_units_spec.proofs.Proved.{proved as batch}
-
-pub no_units : (us : List Ranked) → length us ≤ 0 → us ≡ []
-no_units [] e = refl
-no_units (u ∷ us) e = absurd (omega arith)
 
 module _ (l : Layout) (s : List ℕ) (p : ReaderPlace) (units : List Ranked) (all : (room : ℕ) → (batch_of l s p room).units ≡ take room units) where
   -- The first used up its room.
@@ -30,7 +21,7 @@ module _ (l : Layout) (s : List ℕ) (p : ReaderPlace) (units : List Ranked) (al
 
   -- It did not: no unit is left.
   none : (a b : ℕ) → length (batch_of l s p a).units < a → (batch_of l s (batch_of l s p a).place b).units ≡ []
-  none a zero h = no_units _ (batch.within l s (batch_of l s p a).place zero)
+  none a zero h = nil_from_length _ (omega (arith, batch.within l s (batch_of l s p a).place zero))
   none a (suc b) h = ap (λ (x : Batch). x.units) (batch.told_next l s p a b h).0
 
   over : (a : ℕ) → length (batch_of l s p a).units < a → drop a units ≡ []

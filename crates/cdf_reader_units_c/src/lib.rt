@@ -16,13 +16,17 @@ pub extern "C" fn cdf_units(
 ) -> u64
     ensures { Batched s.now place.old list.old result place.new list.new answer.new }
 {
-    let p = place_from(place);
-    let f = fill(p, s, list);
-    *answer = [f.offset as u64, f.count as u64];
-    if f.count == 0 {
-        return f.number as u64;
+    match fill(place_from(place), s, list) {
+        Ok(f) => {
+            *answer = [0, f.count as u64];
+            if f.count != 0 {
+                write_place(f.place, place);
+            }
+            0
+        }
+        Err(fault) => {
+            *answer = [fault.offset as u64, 0];
+            fault.refusal.number() as u64
+        }
     }
-    let q = f.place;
-    write_place(q, place);
-    f.number as u64
 }

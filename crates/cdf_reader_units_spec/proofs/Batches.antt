@@ -1,12 +1,6 @@
 -- What a batch is, by its room and by NEXT alone.
-use Prim.Native.Nat.{ℕ, zero, suc}
-use mathlib.Core.Path.{◌≡◌, refl, sym, ap, ◌∙◌}
-use mathlib.Core.Bool.{Bool, true, false, not, cond}
-use mathlib.Core.List.{List}
-use native.Mathlib.Omega.{arith}
-use borrow.Author.Tests.{eq-eqb, ne_eqb, eqb-true, eqb-false}
-use lib.Dec.{eqb}
-use lib.ListN.{length}
+use Rattle.std.proofs.Common.{ℕ, zero, suc, ◌≡◌, refl, sym, ap, ◌∙◌, Bool, true, false, not, cond, List, arith, eq-eqb, ne_eqb, eqb-true, eqb, length}
+use Rattle.std.proofs.lemmas.Bool.{eqb-false}
 use Rattle.cdf_unit_prefix.specs.Layout.{Layout}
 use Rattle.cdf_reader_spec.specs.Place.{ReaderPlace, is_empty, fits}
 use Rattle.cdf_reader_spec.specs.Calls.{next_of}

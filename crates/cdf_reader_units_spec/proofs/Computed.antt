@@ -1,5 +1,5 @@
 -- The batches of the samples, computed. No law is cited here, so that a wrong definition is refused by its answers.
-use mathlib.Core.Path.{refl}
+use Rattle.std.proofs.Common.{refl}
 use Rattle.cdf_unit_table.specs.States.{unit_of, root_kind, admits_kind, nothing}
 use Rattle.cdf_reader_spec.specs.Place.{nested, every, positioned, at_last, clauses}
 use Rattle.cdf_reader_units_spec.specs.Batch.{batch_of}

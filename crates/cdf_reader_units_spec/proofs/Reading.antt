@@ -1,22 +1,15 @@
 -- Batches from a start on hand out the unit list, and then the end of it.
-use Prim.Native.Nat.{ℕ, zero, suc, ◌+◌, ◌≤◌}
-use mathlib.Core.Path.{◌≡◌, refl, sym, ap, ◌∙◌}
-use mathlib.Core.List.{List, [], ◌∷◌}
-use native.Mathlib.Numerals.{add-one}
-use native.Mathlib.Omega.{arith}
-use borrow.Author.Tests.{eqb-false}
-use lib.Dec.{eqb}
-use lib.ListN.{length, take, drop, drop_of_length-le}
-use lib.Seq.{drop-drop}
-use Rattle.cdf_unit_table.proofs.Bools.{of_cond}
+use Rattle.std.proofs.Common.{ℕ, zero, suc, ◌+◌, ◌≤◌, ◌≡◌, refl, sym, ap, ◌∙◌, List, [], ◌∷◌, add-one, arith, length, take, drop, drop_of_length-le}
+use Rattle.std.proofs.Common.{drop-drop}
 use Rattle.cdf_unit_prefix.specs.Layout.{Layout}
 use Rattle.cdf_unit_list.specs.Units.{listing}
 use Rattle.cdf_unit_list.specs.Ranks.{ranked, ranked_units}
-use Rattle.cdf_unit_list.specs.Check.{Verdict, check_of}
+use Rattle.cdf_unit_list.specs.Check.{check_of}
 use Rattle.cdf_unit_list.specs.declared.Ranked.{Ranked}
 use Rattle.cdf_reader_spec.specs.Place.{ReaderPlace}
 use Rattle.cdf_reader_spec.specs.Calls.{Reply, first_of, next_of}
 use Rattle.cdf_reader_runs.specs.Runs.{Outcome, reading, outcome, afterwards, due}
+use Rattle.cdf_reader_runs.proofs.Handed.{afterwards_none}
 use Rattle.cdf_reader_runs.proofs.Readings.{reading_first, reading_next, reads, begins}
 use Rattle.cdf_reader_units_spec.specs.Batch.{Batch, no_units, with_unit, batch_of}
 use Rattle.cdf_reader_units_spec.proofs.Batches.{stops, by_room}
@@ -39,12 +32,6 @@ due_first last u us = refl
 rest_left : (xs us : List Ranked) (u : Ranked) (k : ℕ) → drop k xs ≡ u ∷ us → drop (suc k) xs ≡ us
 rest_left xs us u k e = sym (drop-drop 1 k xs ∙ ap (λ n. drop n xs) (add-one k)) ∙ ap (drop 1) e
 
--- The end is no 0.
-ends_some : (a : Verdict) → (afterwards a).number ≡ 0 → ⊥
-unfolding afterwards
-ends_some a =
-    of_cond (λ (o : Outcome). o.number ≡ 0 → ⊥) (eqb a.number 0) _ _ (λ e z. absurd (omega arith)) (λ e. eqb-false a.number 0 e)
-
 module _ (l : Layout) (s : List ℕ) where
   abbrev last : Outcome
   last = afterwards (check_of l s)
@@ -58,7 +45,7 @@ module _ (l : Layout) (s : List ℕ) where
   unfolding ranked_units ranked
   some_listed z none =
       let first : outcome (first_of l s) ≡ due last [] 0 = begins l s ∙ ap (λ us. due last (ranked [] us) 0) none in
-      ends_some (check_of l s) (sym (told (first_of l s) last (first ∙ due_none last 0)).0 ∙ z)
+      afterwards_none (check_of l s) (sym (told (first_of l s) last (first ∙ due_none last 0)).0 ∙ z)
 
   module _ (z : (first_of l s).number ≡ 0) where
     -- The answer after k units, by what is left of the list.
@@ -100,7 +87,7 @@ module _ (l : Layout) (s : List ℕ) where
           where
             go : (ys : List Ranked) → drop (suc k) (ranked_units l s) ≡ ys →
                 (next_of l s p).handed ∷ (batch_of l s (next_of l s p).place room).units ≡ take (suc room) ys
-            go [] left = absurd (ends_some (check_of l s) (sym (told (next_of l s p) last (stopped k p at left)).0 ∙ none))
+            go [] left = absurd (afterwards_none (check_of l s) (sym (told (next_of l s p) last (stopped k p at left)).0 ∙ none))
             go (u ∷ us) left =
                 rw ((handed k p u us at left).1, more (suc k) (onward k p at), rest_left (ranked_units l s) us u (suc k) left)
 
@@ -134,7 +121,7 @@ module _ (l : Layout) (s : List ℕ) where
       begun_by xs e = begins l s ∙ ap (λ us. due last us 0) e
 
       go : (xs : List Ranked) → ranked_units l s ≡ xs → (first_of l s).handed ∷ take room (drop 1 (ranked_units l s)) ≡ take (suc room) (ranked_units l s)
-      go [] e = absurd (ends_some (check_of l s) (sym (told (first_of l s) last (begun_by [] e ∙ due_none last 0)).0 ∙ z))
+      go [] e = absurd (afterwards_none (check_of l s) (sym (told (first_of l s) last (begun_by [] e ∙ due_none last 0)).0 ∙ z))
       go (u ∷ us) e =
           let t = told (first_of l s) _ (begun_by (u ∷ us) e ∙ due_first last u us) in rw (e, t.2)
 
@@ -144,4 +131,4 @@ module _ (l : Layout) (s : List ℕ) where
   reads_end room more z few =
       let q = (batch_of l s (first_of l s).place room).place in
       let t = told (next_of l s q) last (ends_from z (first_of l s).place room 0 (begun z) (omega arith)) in
-      rw (stops l s q more (λ e. ends_some (check_of l s) (sym t.0 ∙ e))) (t.0, t.1)
+      rw (stops l s q more (λ e. afterwards_none (check_of l s) (sym t.0 ∙ e))) (t.0, t.1)

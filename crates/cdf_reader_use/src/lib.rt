@@ -12,40 +12,27 @@ use cdf_unit_table::{ER_GROUP, FILE_GROUP, first_state};
 pub fn is_start(call: Call) -> bool
     ensures { result ≡ is_start call }
 {
-    match call {
-        Call::Start => true,
-        Call::Next => false,
-        Call::Skip => false,
-        Call::GetStream => false,
-        Call::Previous => false,
-    }
+    matches!(call, Call::Start)
 }
 
 // Whether the last unit was not entered, skipped or taken, and admits others. `count` units are open, the last one has this id.
+#[tactic(auto, unfolding(cdf_unit_table::specs::States::opens))]
 fn may_pass(count: usize, fresh: bool, id: usize) -> bool
     ensures { result ≡ may_pass count fresh id }
 {
-    if count == 0 {
-        return false;
-    }
-    if !fresh {
-        return false;
-    }
-    first_state(id) != 0
+    (count != 0) && fresh && first_state(id).is_some()
 }
 
-// Whether the call has something to do; 11 else.
+// Whether the call has something to do. Three fields of a place, whose struct stands above this crate.
 pub fn has_use(call: Call, count: usize, fresh: bool, id: usize) -> bool
     ensures { result ≡ has_use call count fresh id }
 {
     match call {
         Call::Start => true,
-        Call::Next => count != 0,
+        Call::Next | Call::Previous => count != 0,
         Call::Skip => may_pass(count, fresh, id),
         Call::GetStream => {
-            let may = may_pass(count, fresh, id);
-            may & ((id == ER_GROUP) | (id == FILE_GROUP))
+            may_pass(count, fresh, id) && ((id == ER_GROUP) || (id == FILE_GROUP))
         }
-        Call::Previous => count != 0,
     }
 }

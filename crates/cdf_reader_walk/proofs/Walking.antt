@@ -1,7 +1,5 @@
 -- Where the walk ends, its number is that of all units and of the end.
-use Prim.Native.Nat.{ℕ}
-use mathlib.Core.Path.{◌≡◌}
-use mathlib.Core.List.{List}
+use Rattle.std.proofs.Common.{ℕ, ◌≡◌, List}
 use Rattle.cdf_unit_prefix.specs.Layout.{Layout}
 use Rattle.cdf_reader_spec.specs.Calls.{Reply}
 use Rattle.cdf_reader_runs.proofs.Folding.{Going, over}

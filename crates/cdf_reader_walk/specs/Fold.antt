@@ -1,6 +1,6 @@
 -- The number into which a walk folds the units that it is handed and the answer that ends it.
-use Rattle.std.specs.Prelude.{ℕ, ◌*◌, ◌/◌, ◌%◌, ◌^◌}
-use mathlib.Core.List.{List, foldl}
+use Rattle.std.specs.Prelude.{ℕ, ◌*◌, ◌/◌, ◌%◌, ◌^◌, List}
+use mathlib.Core.List.{foldl}
 use Rattle.std.specs.Int.Bits.{bit_or, bit_xor}
 use Rattle.cdf_unit_prefix.specs.Layout.{Layout}
 use Rattle.cdf_unit_list.specs.Ranks.{ranked_units}

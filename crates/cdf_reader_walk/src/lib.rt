@@ -3,10 +3,12 @@
 #![tactic(auto)]
 
 ghost use Rattle.std.specs.Prelude.{◌≡◌};
+ghost use Rattle.cdf_refusal.specs.Numbers.{number_of};
 ghost use Rattle.cdf_unit_prefix.specs.Layout.{layout_for};
 ghost use Rattle.cdf_reader_walk.specs.Fold.{mix_of, mix_end, walk_of};
 
 use cdf_reader::first_as;
+use cdf_refusal::Fault;
 use cdf_unit_list::Ranked;
 use cdf_unit_own::row::NAME_BYTES;
 use cdf_unit_prefix::edition_of;
@@ -22,26 +24,29 @@ fn mix(h: u64, handed: Ranked) -> u64
     turned ^ bounds ^ ((u.id as u64) << 48) ^ ((u.action as u64) << 56) ^ standing
 }
 
-// The number that ends the run, and its offset.
-fn mix_end(h: u64, number: usize, offset: usize) -> u64
-    ensures { result ≡ mix_end h number offset }
+// The refusal that ends the run, and its offset.
+fn mix_end(h: u64, fault: Fault) -> u64
+    ensures { result ≡ mix_end h (number_of fault.refusal) fault.offset }
 {
-    h ^ ((number as u64) << 57) ^ ((offset as u64) << 3)
+    h ^ ((fault.refusal.number() as u64) << 57) ^ ((fault.offset as u64) << 3)
 }
 
+// The refusal that ends the loop is what is told.
 #[unsafe(no_mangle)]
 pub extern "C" fn cdf_walk(s: &[u8]) -> u64
     ensures { result ≡ walk_of (layout_for s.now) s.now }
 {
     let row = NAME_BYTES;
     let edition = edition_of(s);
-    let mut a = first_as(edition, s);
+    let mut next = first_as(edition, s);
     let mut h: u64 = 0;
-    while a.number == 0 {
-        let handed = a.handed;
-        h = mix(h, handed);
-        let p = a.place;
-        a = p.advance(&row, edition, s);
+    loop {
+        match next {
+            Ok(a) => {
+                h = mix(h, a.handed);
+                next = a.place.advance(&row, edition, s);
+            }
+            Err(fault) => return mix_end(h, fault),
+        }
     }
-    mix_end(h, a.number, a.offset)
 }

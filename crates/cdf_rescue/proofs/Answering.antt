@@ -1,17 +1,15 @@
 -- The numbers of a rescue in their order, by what the code has learnt.
-use Prim.Native.Nat.{ℕ, ◌+◌, ◌≤◌, ◌<◌}
-use mathlib.Core.Path.{◌≡◌, sym}
-use mathlib.Core.List.{List, []}
-use native.Mathlib.Omega.{arith}
-use borrow.Author.Tests.{lt-ltb, le-ltb, eq-eqb, ne_eqb}
-use lib.ListN.{length}
+use Rattle.std.proofs.Common.{ℕ, ◌+◌, ◌≤◌, ◌<◌, ◌≡◌, refl, sym, List, [], arith, lt-ltb, le-ltb, eq-eqb, ne_eqb, length}
+use Rattle.std.specs.Prelude.{Ok, Err}
+use Rattle.cdf_refusal.specs.Numbers.{number_of}
+use Rattle.cdf_refusal.specs.declared.Refusal.{Refusal}
 use Rattle.cdf_unit_prefix.specs.Layout.{Layout, prefix_of}
 use Rattle.cdf_unit_table.specs.Ids.{er_group}
 use Rattle.cdf_grammar.proofs.Built.{length_unit}
 use Rattle.cdf_builder_write.specs.Patch.{patch}
 use Rattle.cdf_builder_write.proofs.Patching.{patch_some}
 use Rattle.cdf_rescue_spec.specs.Salvage.{pieces, runs_of, most_runs, refusal, group_of, rescued, rescue_of}
-use Rattle.cdf_rescue.specs.Numbers.{firsts, ends, report_of}
+use Rattle.cdf_rescue.specs.Numbers.{entries, report_of, told_of}
 use Rattle.cdf_rescue.specs.Parts.{kept_of}
 use Rattle.cdf_rescue.specs.declared.Report.{Report}
 
@@ -66,16 +64,16 @@ module _ (l : Layout) (s : List ℕ) (room : ℕ) where
               )
 
 -- A refusal writes nothing.
-pub refuses : (l : Layout) (s out : List ℕ) (n : ℕ) (r : Report) → rescue_of l (length out) s ≡ refusal n → r ≡ report_of (refusal n) →
-    (r ≡ report_of (rescue_of l (length out) s)) × (out ≡ patch 0 (rescue_of l (length out) s).group out)
-refuses l s out n r e is = rw e (is, sym (patch_some 0 [] out (omega arith)))
+pub refuses : (l : Layout) (s out : List ℕ) (e : Refusal) → rescue_of l (length out) s ≡ refusal (number_of e) →
+    (told_of (Err e) ≡ report_of (rescue_of l (length out) s)) × (out ≡ patch 0 (rescue_of l (length out) s).group out)
+refuses l s out e is = rw is (refl, sym (patch_some 0 [] out (omega arith)))
 
 -- The report of a rescue, from what the scan found.
-pub reports : (l : Layout) (s : List ℕ) (room n k : ℕ) (from to : List ℕ) →
+pub reports : (l : Layout) (s : List ℕ) (room : ℕ) (r : Report) →
     rescue_of l room s ≡ record { number = 0; runs = runs_of (pieces l s); group = group_of l (kept_of l s) } →
-    n ≡ prefix_of l + length (kept_of l s) → k ≡ length (runs_of (pieces l s)) → from ≡ firsts (runs_of (pieces l s)) →
-    to ≡ ends (runs_of (pieces l s)) → record { number = 0; size = n; runs = k; from = from; to = to } ≡ report_of (rescue_of l room s)
+    r.size ≡ prefix_of l + length (kept_of l s) → r.count ≡ length (runs_of (pieces l s)) → r.runs ≡ entries (runs_of (pieces l s)) →
+    told_of (Ok r) ≡ report_of (rescue_of l room s)
 unfolding report_of group_of
-reports l s room n k from to e size count is-from is-to =
+reports l s room r e size count runs-are =
     let long : length (group_of l (kept_of l s)) ≡ prefix_of l + length (kept_of l s) = omega (arith, length_unit l er_group 0 [] (kept_of l s)) in
-    rw (e, long, size, count, is-from, is-to)
+    rw (e, long, size, count, runs-are)

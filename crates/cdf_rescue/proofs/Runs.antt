@@ -1,16 +1,10 @@
 -- The dropped runs from a position on: a gap is one run, and what stands outside them is kept.
-use Prim.Native.Nat.{ℕ, zero, suc, ◌+◌, ◌-◌, ◌≤◌, ◌<◌}
-use mathlib.Core.Path.{◌≡◌, refl, sym, ◌∙◌}
-use mathlib.Core.Bool.{Bool, true, false, cond}
-use mathlib.Core.List.{List, [], ◌∷◌, ◌++◌, append_assoc}
-use mathlib.Core.Logic.{◌⊎◌, inl, inr}
-use native.Mathlib.Omega.{arith}
-use borrow.Author.Tests.{eqb-true, eq-eqb, ne_eqb}
-use lib.Dec.{eqb}
-use lib.ListN.{length, take, drop, length-drop, drop_of_length-le, take-append-drop}
-use lib.Seq.{take-add, drop-drop}
+use Rattle.std.proofs.Common.{ℕ, zero, suc, ◌+◌, ◌-◌, ◌≤◌, ◌<◌, ◌≡◌, refl, sym, ◌∙◌, Bool, true, false, cond, List, [], ◌∷◌, ◌++◌, append_assoc, ◌⊎◌}
+use Rattle.std.proofs.Common.{inl, inr, arith, eqb-true, eq-eqb, ne_eqb, eqb, length, take, drop, length-drop, drop_of_length-le, take-append-drop}
+use Rattle.std.proofs.Common.{take-add, drop-drop}
 use Rattle.cdf_unit_prefix.specs.Layout.{Layout}
-use Rattle.cdf_rescue_spec.specs.Salvage.{whole_at, kept_bytes, Run, join_run, runs_of}
+use Rattle.cdf_rescue_spec.specs.Salvage.{whole_at, kept_bytes, join_run, runs_of}
+use Rattle.cdf_rescue_spec.specs.declared.Run.{Run}
 use Rattle.cdf_rescue_spec.proofs.Steps.{none_at, drop_at, keep_at}
 use Rattle.cdf_rescue_spec.proofs.Cutting.{whole_within, by_pieces}
 use Rattle.cdf_rescue.specs.Parts.{Gap, kept_from, runs_from}

@@ -1,62 +1,53 @@
 -- The loop over gaps and spans.
-use Prim.Native.Nat.{ℕ, suc, ◌+◌, ◌-◌, ◌≤◌, ◌<◌}
-use mathlib.Core.Path.{◌≡◌, refl, sym, ap, ◌∙◌}
-use mathlib.Core.Bool.{true, false}
-use mathlib.Core.List.{List, [], ◌∷◌, ◌++◌, map, append-nil, append_assoc}
-use mathlib.Core.Logic.{◌⊎◌, inl, inr}
-use native.Mathlib.Omega.{arith}
+use Rattle.std.proofs.Common.{ℕ, suc, ◌+◌, ◌-◌, ◌≤◌, ◌<◌, ◌≡◌, refl, sym, ap, ◌∙◌, List, [], ◌∷◌, ◌++◌, append-nil, append_assoc, ◌⊎◌, inl, inr}
+use Rattle.std.proofs.Common.{arith, eqb, length, take, drop, set, replicate, length-append, length-take, length-drop}
 use native.Mathlib.Decide.{dec_lt}
-use lib.Dec.{eqb}
-use lib.ListN.{length, take, drop, set, replicate, length-append, length-map, length-take, length-drop}
-use Rattle.cdf_unit_table.specs.Entries.{padded}
-use Rattle.cdf_unit_table.proofs.Bools.{clash, of_cond}
-use Rattle.cdf_unit_table.proofs.Entries.{pad_on}
+use lib.Seq.{set-append_seam, append_snoc}
+use Rattle.cdf_unit_table.proofs.Bools.{of_cond}
 use Rattle.cdf_unit_prefix.specs.Layout.{Layout, prefix_of}
-use Rattle.cdf_rescue_spec.specs.Salvage.{whole_at, pieces, kept_bytes, Run, join_run, runs_of, most_runs}
+use Rattle.cdf_rescue_spec.specs.Salvage.{whole_at, pieces, kept_bytes, join_run, runs_of, most_runs}
+use Rattle.cdf_rescue_spec.specs.declared.Run.{Run}
 use Rattle.cdf_rescue_spec.proofs.Steps.{none_at, drop_at}
-use Rattle.cdf_rescue.specs.Numbers.{firsts, ends}
-use Rattle.cdf_rescue.specs.Parts.{Gap, Span, kept_from, runs_from, Scanned}
-use Rattle.cdf_rescue.specs.declared.Found.{Found}
+use Rattle.cdf_rescue.specs.Numbers.{entries}
+use Rattle.cdf_rescue.specs.Parts.{Gap, Span, kept_from, runs_from, All, Many}
+use Rattle.cdf_refusal.specs.declared.Refusal.TheVariants.{TooManyRuns}
 use Rattle.cdf_rescue.proofs.Runs.{run, gap_run}
 
-module _ (f : Run → ℕ) where
-  map_on : (rs : List Run) (r : Run) → map f (rs ++ (r ∷ [])) ≡ map f rs ++ (f r ∷ [])
-  map_on [] r = refl
-  map_on (q ∷ qs) r = ap (λ xs. f q ∷ xs) (map_on qs r)
-
-  entry_on : (rs : List Run) (r : Run) → length rs < most_runs →
-      set (padded most_runs (map f rs)) (length rs) (f r) ≡ padded most_runs (map f (rs ++ (r ∷ [])))
-  entry_on rs r h =
-      let same = length-map rs f in
-      rw (← same, map_on rs r) (pad_on most_runs (map f rs) (f r) (omega arith))
+-- One run more, in the first entry that is not used.
+entry_on : (rs : List Run) (r : Run) → length rs < most_runs → set (entries rs) (length rs) r ≡ entries (rs ++ (r ∷ []))
+entry_on rs r h =
+    let none = run 0 0 in
+    let left = most_runs - suc (length rs) in
+    let some : most_runs - length rs ≡ suc left = omega arith in
+    let fewer : most_runs - (length rs + 1) ≡ left = omega arith in
+    rw (some, set-append_seam rs none (replicate left none) r, length-append rs (r ∷ []), fewer, append_snoc rs r (replicate left none))
 
 module _ (l : Layout) (s : List ℕ) where
   -- So far: the runs before the position are in their entries, and so many bytes before it are kept.
-  pub record Scanning (at kept runs : ℕ) (from to : List ℕ) : Type 0 where
+  pub record Scanning (at kept count : ℕ) (runs : List Run) : Type 0 where
     pub done : List Run
     pub all : runs_of (pieces l s) ≡ done ++ runs_from l s at
-    pub count : runs ≡ length done
-    pub few : runs ≤ most_runs
-    pub from_is : from ≡ firsts done
-    pub to_is : to ≡ ends done
+    pub count_is : count ≡ length done
+    pub few : count ≤ most_runs
+    pub runs_are : runs ≡ entries done
     pub bytes : length (kept_bytes s (pieces l s)) ≡ kept + length (kept_from l s at)
     pub within : kept ≤ at
     pub high : at ≤ length s
     pub stops : (at ≡ length s) ⊎ (whole_at l (drop at s) ≡ 0)
-    pub some : (runs ≡ 0) ⊎ ((0 < kept) ⊎ (at ≡ length s))
+    pub some : (count ≡ 0) ⊎ ((0 < kept) ⊎ (at ≡ length s))
 
   part_long : (at to : ℕ) → at ≤ to → to ≤ length s → length (take (to - at) (drop at s)) ≡ to - at
   part_long at to low high = omega (arith, length-take (to - at) (drop at s), length-drop at s)
 
-  pub scan_begun : (at : ℕ) → Span l s (prefix_of l) at → Scanning at (at - prefix_of l) 0 (replicate 64 0) (replicate 64 0)
+  pub scan_begun : (at : ℕ) (none : Run) → (none.from ≡ 0) × (none.to ≡ 0) → Span l s (prefix_of l) at →
+      Scanning at (at - prefix_of l) 0 (replicate 64 none)
   unfolding pieces
-  scan_begun at w = record {
+  scan_begun at none zero w = record {
     done = [];
     all = w.runs;
-    count = refl;
+    count_is = refl;
     few = omega arith;
-    from_is = refl;
-    to_is = refl;
+    runs_are = let is : none ≡ run 0 0 = ap (λ x. run x none.to) zero.0 ∙ ap (run 0) zero.1 in ap (replicate 64) is;
     bytes = ap length w.bytes ∙ rw (length-append, part_long (prefix_of l) at w.low w.high);
     within = omega arith;
     high = w.high;
@@ -64,7 +55,7 @@ module _ (l : Layout) (s : List ℕ) where
     some = inl refl;
   }
 
-  module _ (at kept runs : ℕ) (from to : List ℕ) (g : Scanning at kept runs from to) (h : at < length s) where
+  module _ (at kept count : ℕ) (runs : List Run) (g : Scanning at kept count runs) (h : at < length s) where
     none_here : whole_at l (drop at s) ≡ 0
     none_here = go g.stops
       where
@@ -95,19 +86,18 @@ module _ (l : Layout) (s : List ℕ) where
             by (yes p) = inl (omega arith)
             by (no p) = let same : start ≡ end = omega (arith, v.low) in absurd (some (rw same none))
 
-    pub scan_on : (start end : ℕ) → runs < most_runs → Gap l s at start → Span l s start end →
-        Scanning end (kept + (end - start)) (runs + 1) (set from runs at) (set to runs start)
+    pub scan_on : (start end : ℕ) → count < most_runs → Gap l s at start → Span l s start end →
+        Scanning end (kept + (end - start)) (count + 1) (set runs count (run at start))
     scan_on start end room w v =
         let one = gap_run l s at start (later start w) w in
         let r = run at start in
-        let few : length g.done < most_runs = omega (arith, g.count) in
+        let few : length g.done < most_runs = omega (arith, g.count_is) in
         record {
           done = g.done ++ (r ∷ []);
           all = g.all ∙ rw (one.runs, v.runs) (sym (append_assoc g.done (r ∷ []) (runs_from l s end)));
-          count = omega (arith, g.count, length-append g.done (r ∷ []));
+          count_is = omega (arith, g.count_is, length-append g.done (r ∷ []));
           few = omega arith;
-          from_is = rw (g.from_is, g.count) (entry_on (λ (q : Run). q.from) g.done r few);
-          to_is = rw (g.to_is, g.count) (entry_on (λ (q : Run). q.to) g.done r few);
+          runs_are = rw (g.runs_are, g.count_is) (entry_on g.done r few);
           bytes =
               let more = ap length (one.kept ∙ v.bytes) in
               let long = part_long start end v.low v.high in
@@ -119,12 +109,9 @@ module _ (l : Layout) (s : List ℕ) where
         }
 
     -- One run more than there are entries; and between two of them something is kept.
-    pub scan_many : runs ≡ most_runs → (r : Found) → r.many ≡ true → Scanned l s r
+    pub scan_many : count ≡ most_runs → Many l s TooManyRuns
     unfolding runs_of join_run
-    scan_many full r e = record {
-      many = λ x. (more, kept_some g.some);
-      all = λ x. clash cc;
-    }
+    scan_many full = record { is = refl; more = more; some = kept_some g.some }
       where
         longer : (q : Run) (rs : List Run) → 1 ≤ length (join_run q rs)
         longer q [] = omega arith
@@ -135,29 +122,25 @@ module _ (l : Layout) (s : List ℕ) where
         next = rw (drop_at l s at h none_here) (longer (run at (suc at)) (runs_from l s (suc at)))
 
         more : most_runs < length (runs_of (pieces l s))
-        more = rw (g.all, length-append) (omega (arith, next, g.count))
+        more = rw (g.all, length-append) (omega (arith, next, g.count_is))
 
-        kept_some : (runs ≡ 0) ⊎ ((0 < kept) ⊎ (at ≡ length s)) → length (kept_bytes s (pieces l s)) ≡ 0 → ⊥
+        kept_some : (count ≡ 0) ⊎ ((0 < kept) ⊎ (at ≡ length s)) → length (kept_bytes s (pieces l s)) ≡ 0 → ⊥
         kept_some (inl e) none = omega arith
         kept_some (inr (inl e)) none = omega (arith, g.bytes)
         kept_some (inr (inr e)) none = omega arith
 
   -- At the end all runs are found.
-  pub scan_all : (at kept runs : ℕ) (from to : List ℕ) → Scanning at kept runs from to → length s ≤ at → (r : Found) → r.many ≡ false →
-      r.kept ≡ kept → r.runs ≡ runs → r.from ≡ from → r.to ≡ to → Scanned l s r
+  pub scan_all : (at kept count : ℕ) (runs : List Run) → Scanning at kept count runs → length s ≤ at →
+      All l s (record { kept = kept; count = count; runs = runs })
   unfolding kept_bytes runs_of
-  scan_all at kept runs from to g end r one k n f t =
+  scan_all at kept count runs g end =
       let none = none_at l s at end in
       let all : runs_of (pieces l s) ≡ g.done = g.all ∙ rw none (append-nil g.done) in
       let bytes : length (kept_bytes s (pieces l s)) ≡ kept = g.bytes ∙ rw none (omega arith) in
       record {
-        many = λ x. clash cc;
-        all = λ x. (
-          k ∙ sym bytes,
-          rw all (n ∙ g.count),
-          rw all (f ∙ g.from_is),
-          rw all (t ∙ g.to_is),
-          omega (arith, n, g.few),
-          omega (arith, k, g.within, g.high),
-        );
+        kept = sym bytes;
+        count = rw all g.count_is;
+        runs = rw all g.runs_are;
+        few = g.few;
+        within = omega (arith, g.within, g.high);
       }

@@ -1,12 +1,7 @@
 -- The two loops: over bytes at which no unit stands whole, and over whole units.
-use Prim.Native.Nat.{ℕ, zero, suc, ◌+◌, ◌-◌, ◌≤◌, ◌<◌}
-use mathlib.Core.Path.{◌≡◌, refl, sym, ◌∙◌}
-use mathlib.Core.List.{List, ◌++◌, append_assoc}
-use mathlib.Core.Logic.{◌⊎◌}
-use native.Mathlib.Omega.{arith}
+use Rattle.std.proofs.Common.{ℕ, zero, suc, ◌+◌, ◌-◌, ◌≤◌, ◌<◌, ◌≡◌, refl, sym, ◌∙◌, List, ◌++◌, append_assoc, ◌⊎◌, arith, length, take, drop}
+use Rattle.std.proofs.Common.{length-drop, take-add, drop-drop}
 use native.Mathlib.Decide.{dec_lt}
-use lib.ListN.{length, take, drop, length-drop}
-use lib.Seq.{take-add, drop-drop}
 use Rattle.cdf_unit_prefix.specs.Layout.{Layout}
 use Rattle.cdf_rescue_spec.specs.Salvage.{whole_at, kept_bytes, runs_of}
 use Rattle.cdf_rescue_spec.proofs.Steps.{keep_at}
@@ -42,10 +37,12 @@ module _ (l : Layout) (s : List ℕ) (from : ℕ) where
   pub kept_none : from ≤ length s → Kept from
   kept_none h = let none : from - from ≡ 0 = omega arith in record { low = omega arith; high = h; bytes = rw none; runs = refl }
 
-  pub kept_on : (at k : ℕ) → Kept at → at < length s → k ≡ whole_at l (drop at s) → k ≤ length (drop at s) → (k ≡ 0 → ⊥) → Kept (at + k)
+  pub kept_on : (at k : ℕ) → Kept at → k ≡ whole_at l (drop at s) → k ≤ length (drop at s) → (k ≡ 0 → ⊥) → Kept (at + k)
   unfolding kept_bytes runs_of
-  kept_on at zero p h e room some = absurd (some refl)
-  kept_on at (suc k) p h e room some =
+  kept_on at zero p e room some = absurd (some refl)
+  kept_on at (suc k) p e room some =
+      let few : suc k ≤ length s - at = simp length-drop at room in
+      let h : at < length s = omega arith in
       let step = keep_at l s at k h (sym e) in
       let long : at + suc k - at ≡ suc k = omega arith in
       let sum : at + suc k - from ≡ (at - from) + suc k = omega (arith, p.low) in
@@ -53,7 +50,7 @@ module _ (l : Layout) (s : List ℕ) (from : ℕ) where
       let bytes : kept_from l s at ≡ take (suc k) (drop at s) ++ kept_from l s (at + suc k) = rw step (rw long) in
       record {
         low = omega (arith, p.low);
-        high = let few : suc k ≤ length s - at = simp length-drop at room in omega arith;
+        high = omega arith;
         bytes = p.bytes ∙ rw (bytes, sum, take-add (at - from) (suc k) (drop from s), drop-drop, there) (simp append_assoc);
         runs = p.runs ∙ rw step;
       }

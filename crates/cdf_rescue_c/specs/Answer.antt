@@ -1,6 +1,7 @@
 -- What a rescue answers beside its number, as the numbers that cross to C.
 use Rattle.std.specs.Prelude.{ℕ, List, [], ◌∷◌, length}
-use Rattle.cdf_rescue_spec.specs.Salvage.{Run, Rescued}
+use Rattle.cdf_rescue_spec.specs.Salvage.{Rescued}
+use Rattle.cdf_rescue_spec.specs.declared.Run.{Run}
 use Rattle.cdf_unit_table.specs.Entries.{padded}
 
 -- The first byte of each run and the byte after its last, one run after the other.

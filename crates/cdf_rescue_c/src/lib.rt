@@ -6,28 +6,20 @@ ghost use Rattle.cdf_unit_prefix.specs.Layout.{layout_of};
 ghost use Rattle.cdf_unit_prefix.specs.declared.Edition.TheVariants.{First};
 ghost use Rattle.cdf_builder_write.specs.Patch.{patch};
 ghost use Rattle.cdf_rescue_spec.specs.Salvage.{rescue_of};
-ghost use Rattle.cdf_rescue_c.specs.Answer.{answer_of};
-ghost use Rattle.cdf_rescue_c.specs.Parts.{in_turn};
+ghost use Rattle.cdf_rescue_c.specs.Answer.{pairs, answer_of};
 
 use cdf_rescue::{Report, rescue};
 
 // Writes how many bytes the group has, how many runs were dropped, and of each run the first byte and the byte after its last.
-fn write_answer(answer: &mut [u64; 130], told: Report)
-    ensures { answer.new ≡ told.size ∷ told.runs ∷ in_turn told.from told.to }
+// By `chunks_exact_mut(2)` it did not close: no lemma says what an array is after such a loop.
+fn write_answer(answer: &mut [u64; 130], told: &Report)
+    ensures { answer.new ≡ told.now.size ∷ told.now.count ∷ pairs told.now.runs }
 {
-    let from = told.from;
-    let to = told.to;
-    *answer = [0; 130];
     answer[0] = told.size as u64;
-    answer[1] = told.runs as u64;
-    let mut at = 2;
-    let mut i = 0;
-    while i < 64 {
-        answer[at] = from[i] as u64;
-        at += 1;
-        answer[at] = to[i] as u64;
-        at += 1;
-        i += 1;
+    answer[1] = told.count as u64;
+    for (i, run) in told.runs.iter().enumerate() {
+        answer[2 * i + 2] = run.from as u64;
+        answer[2 * i + 3] = run.to as u64;
     }
 }
 
@@ -40,7 +32,14 @@ pub extern "C" fn cdf_rescue(s: &[u8], out: &mut [u8], answer: &mut [u64; 130]) 
     ensures bytes { out.new ≡ patch 0 (rescue_of (layout_of First) (length out.old) s.now).group
         out.old }
 {
-    let told = rescue(s, out);
-    write_answer(answer, told);
-    told.number as u64
+    match rescue(s, out) {
+        Ok(told) => {
+            write_answer(answer, &told);
+            0
+        }
+        Err(refusal) => {
+            *answer = [0; 130];
+            refusal.number() as u64
+        }
+    }
 }

@@ -1,16 +1,11 @@
 -- A rescue answers 0 if what was kept passes the five tests, and only then.
-use Prim.Native.Nat.{ℕ, ◌+◌, ◌≤◌}
-use mathlib.Core.Path.{◌≡◌, refl}
-use mathlib.Core.Bool.{Bool, true, false, cond}
-use mathlib.Core.List.{List, []}
-use native.Mathlib.Omega.{arith}
-use borrow.Author.Tests.{ltb-false, le-ltb, eqb-false, ne_eqb}
-use lib.Dec.{ltb, eqb}
-use lib.ListN.{length}
+use Rattle.std.proofs.Common.{ℕ, ◌+◌, ◌≤◌, ◌≡◌, refl, Bool, true, false, cond, List, [], arith, ltb-false, le-ltb, ne_eqb, ltb, eqb, length}
+use Rattle.std.proofs.lemmas.Bool.{eqb-false}
 use Rattle.cdf_unit_table.specs.Ids.{er_group}
 use Rattle.cdf_unit_prefix.specs.Layout.{Layout, prefix_of}
 use Rattle.cdf_grammar.specs.Encoding.{unit_bytes}
-use Rattle.cdf_rescue_spec.specs.Salvage.{pieces, kept_bytes, Run, runs_of, Rescued, most_runs, group_of, rescued, rescue_of}
+use Rattle.cdf_rescue_spec.specs.Salvage.{pieces, kept_bytes, runs_of, Rescued, most_runs, group_of, rescued, rescue_of}
+use Rattle.cdf_rescue_spec.specs.declared.Run.{Run}
 
 -- To unfold these would unfold the pieces and the prefix too.
 pub rescue_is : (l : Layout) (room : ℕ) (s : List ℕ) →

@@ -1,10 +1,6 @@
 -- What is kept are the trees of an E/R group.
-use Prim.Native.Nat.{ℕ, ◌+◌, ◌-◌, ◌≤◌}
-use mathlib.Core.Path.{◌≡◌, refl, sym, ap, subst, ◌∙◌}
-use mathlib.Core.List.{List, [], ◌∷◌, flatten, cons≢nil}
-use mathlib.Core.Logic.{◌↔◌, inl}
-use native.Mathlib.Omega.{arith}
-use lib.ListN.{length, take, drop}
+use Rattle.std.proofs.Common.{ℕ, ◌+◌, ◌-◌, ◌≤◌, ◌≡◌, refl, sym, ap, subst, ◌∙◌, List, [], ◌∷◌, ◌↔◌, inl, arith, length, take, drop}
+use mathlib.Core.List.{flatten, cons≢nil}
 use Rattle.cdf_unit_table.specs.Ids.{er_group}
 use Rattle.cdf_unit_table.specs.States.{nothing}
 use Rattle.cdf_unit_prefix.specs.Layout.{Layout, prefix_of}

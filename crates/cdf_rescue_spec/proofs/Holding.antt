@@ -1,11 +1,6 @@
 -- What an E/R group takes as its first, in the words of the published grammar.
-use Prim.Native.Nat.{ℕ, ◌≤◌}
-use mathlib.Core.Path.{◌≡◌, refl, sym, ◌∙◌}
-use mathlib.Core.Bool.{not}
-use mathlib.Core.List.{List, [], ◌∷◌}
-use mathlib.Core.Logic.{◌↔◌}
-use borrow.Author.Tests.{eqb-false, ne_eqb, not-true}
-use lib.Dec.{eqb}
+use Rattle.std.proofs.Common.{ℕ, ◌≤◌, ◌≡◌, refl, sym, ◌∙◌, not, List, [], ◌∷◌, ◌↔◌, ne_eqb, eqb}
+use Rattle.std.proofs.lemmas.Bool.{eqb-false, not-true}
 use Rattle.cdf_unit_table.specs.Ids.{member, er_group, template, relation, ordered_relation, ids_end}
 use Rattle.cdf_unit_table.specs.States.{nothing, admit}
 use Rattle.cdf_unit_table.proofs.Tables.{same}

@@ -1,6 +1,5 @@
 -- The claims of this crate, proved.
-use mathlib.Core.Path.{◌≡◌, refl}
-use mathlib.Core.List.{[]}
+use Rattle.std.proofs.Common.{◌≡◌, refl, []}
 use Rattle.cdf_unit_prefix.specs.Layout.{layout_of, prefix_of}
 use Rattle.cdf_unit_prefix.specs.declared.Edition.{Edition}
 use Rattle.cdf_grammar.proofs.Within.{stream_root}

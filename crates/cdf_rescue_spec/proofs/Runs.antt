@@ -1,15 +1,10 @@
 -- The runs of pieces that stand one behind the other: the dropped bytes, neighbours joined.
-use Prim.Native.Nat.{ℕ, suc, ◌≤◌, ◌<◌}
-use mathlib.Core.Path.{◌≡◌, refl}
-use mathlib.Core.Bool.{Bool, true, false, cond}
-use mathlib.Core.List.{List, [], ◌∷◌}
+use Rattle.std.proofs.Common.{ℕ, suc, ◌≤◌, ◌<◌, ◌≡◌, refl, Bool, true, false, cond, List, [], ◌∷◌, ◌⊎◌, inl, inr, ◌↔◌, arith, eqb-true, eqb}
+use Rattle.std.proofs.lemmas.Bool.{eqb-false}
 use mathlib.Core.Logic.Iff
-use mathlib.Core.Logic.{◌⊎◌, inl, inr, ◌↔◌}
-use native.Mathlib.Omega.{arith}
 use native.Mathlib.Decide.{dec_lt}
-use borrow.Author.Tests.{eqb-true, eqb-false}
-use lib.Dec.{eqb}
-use Rattle.cdf_rescue_spec.specs.Salvage.{Piece, kept, dropped, Run, join_run, runs_of}
+use Rattle.cdf_rescue_spec.specs.Salvage.{Piece, kept, dropped, join_run, runs_of}
+use Rattle.cdf_rescue_spec.specs.declared.Run.{Run}
 use Rattle.cdf_rescue_spec.specs.Kept.{Tiles, Apart, InRuns, IsDropped}
 
 -- Runs that are apart, none before this byte.

@@ -1,11 +1,6 @@
 -- An accepted E/R group comes out as it was.
-use Prim.Native.Nat.{ℕ, suc, ◌+◌, ◌^◌, ◌≤◌, ◌<◌}
-use mathlib.Core.Path.{◌≡◌, refl, sym, ap, ◌∙◌}
-use mathlib.Core.List.{List, [], ◌∷◌, ◌++◌}
-use mathlib.Core.Logic.{inl, inr}
-use native.Mathlib.Omega.{arith}
-use lib.ListN.{length, drop, length-drop, take-append-drop, drop_of_length-le}
-use lib.Seq.{drop_at, drop-drop}
+use Rattle.std.proofs.Common.{ℕ, suc, ◌+◌, ◌^◌, ◌≤◌, ◌<◌, ◌≡◌, refl, sym, ap, ◌∙◌, List, [], ◌∷◌, ◌++◌, inl, inr, arith, length, drop, length-drop}
+use Rattle.std.proofs.Common.{take-append-drop, drop_of_length-le, drop_at, drop-drop}
 use Rattle.cdf_unit_table.specs.Ids.{er_group}
 use Rattle.cdf_unit_table.specs.States.{nothing}
 use Rattle.cdf_unit_table.proofs.Parts.{minus_plus}

@@ -1,15 +1,9 @@
 -- The bytes before the first piece are not looked at.
-use Prim.Native.Nat.{ℕ, zero, suc, ◌+◌, ◌-◌, ◌≤◌}
-use mathlib.Core.Path.{◌≡◌, refl, sym, ap, ◌∙◌}
-use mathlib.Core.Bool.{cond}
-use mathlib.Core.List.{List, [], ◌∷◌}
-use native.Mathlib.Omega.{arith}
-use lib.Dec.{ltb}
-use lib.ListN.{length, drop}
-use lib.Seq.{drop-drop}
+use Rattle.std.proofs.Common.{ℕ, zero, suc, ◌+◌, ◌-◌, ◌≤◌, ◌≡◌, refl, sym, ap, ◌∙◌, cond, List, [], ◌∷◌, arith, ltb, length, drop, drop-drop}
 use Rattle.cdf_unit_prefix.specs.Layout.{Layout, prefix_of}
 use Rattle.cdf_rescue_spec.specs.Salvage.{Piece, kept, dropped, whole_at, piece_then, pieces_from, pieces, kept_bytes}
-use Rattle.cdf_rescue_spec.specs.Salvage.{Run, runs_of, rescued, rescue_of}
+use Rattle.cdf_rescue_spec.specs.Salvage.{runs_of, rescued, rescue_of}
+use Rattle.cdf_rescue_spec.specs.declared.Run.{Run}
 use Rattle.cdf_rescue_spec.specs.Kept.{Tiles}
 use Rattle.cdf_rescue_spec.proofs.Cutting.{in_order}
 use Rattle.cdf_rescue_spec.proofs.Answer.{rescue_is}

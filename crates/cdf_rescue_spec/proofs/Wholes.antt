@@ -1,12 +1,6 @@
 -- The units that are kept are those of the published grammar that an E/R group may hold.
-use Prim.Native.Nat.{ℕ, suc, ◌^◌, ◌<◌}
-use mathlib.Core.Path.{◌≡◌, refl, sym, ap, ◌∙◌}
-use mathlib.Core.Bool.{Bool, true, false, cond}
-use mathlib.Core.List.{List, ◌++◌}
-use native.Mathlib.Omega.{arith}
-use borrow.Author.Tests.{eqb-true}
-use lib.Dec.{eqb}
-use lib.ListN.{length, take, drop, length-take, take-append-drop}
+use Rattle.std.proofs.Common.{ℕ, suc, ◌^◌, ◌<◌, ◌≡◌, refl, sym, ap, ◌∙◌, Bool, true, false, cond, List, ◌++◌, arith, eqb-true, eqb, length, take}
+use Rattle.std.proofs.Common.{drop, length-take, take-append-drop}
 use Rattle.cdf_unit_table.specs.Ids.{er_group}
 use Rattle.cdf_unit_table.specs.States.{nothing, admit}
 use Rattle.cdf_unit_prefix.specs.Layout.{Layout, length_at}

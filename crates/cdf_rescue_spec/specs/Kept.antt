@@ -6,7 +6,8 @@ use Rattle.cdf_grammar.specs.Trees.{Forest, none, tree, ids, singly}
 use Rattle.cdf_grammar.specs.Published.{Among, Conforms}
 use Rattle.cdf_grammar.specs.Encoding.{Stream, encode}
 use Rattle.cdf_grammar.specs.Groups.{group_bytes}
-use Rattle.cdf_rescue_spec.specs.Salvage.{Piece, kept, dropped, pieces, Run, runs_of, refusal, rescue_of}
+use Rattle.cdf_rescue_spec.specs.Salvage.{Piece, kept, dropped, pieces, runs_of, refusal, rescue_of}
+use Rattle.cdf_rescue_spec.specs.declared.Run.{Run}
 
 -- The bytes are one whole unit that an E/R group may hold, in the words of the published grammar; its length can be written.
 pub record Whole (l : Layout) (s : List ℕ) : Type 0 where

@@ -1,5 +1,6 @@
 -- The rescue of a broken E/R group (02, f), from the bytes alone.
 use Rattle.std.specs.Prelude.{ℕ, zero, suc, ◌+◌, ◌-◌, cond, List, [], ◌∷◌, ◌++◌, length, take, drop, ltb, eqb}
+use Rattle.cdf_rescue_spec.specs.declared.Run.{Run}
 use Rattle.cdf_unit_table.specs.Ids.{er_group}
 use Rattle.cdf_unit_table.specs.States.{nothing}
 use Rattle.cdf_unit_prefix.specs.Layout.{Layout, prefix_of, length_at}
@@ -37,11 +38,6 @@ unfoldable pub kept_bytes : List ℕ → List Piece → List ℕ
 kept_bytes s [] = []
 kept_bytes s (kept from to ∷ ps) = take (to - from) (drop from s) ++ kept_bytes s ps
 kept_bytes s (dropped at ∷ ps) = kept_bytes s ps
-
--- A run of dropped bytes, from its first byte to the byte after its last.
-pub record Run : Type 0 where
-  pub from : ℕ
-  pub to : ℕ
 
 -- A run in front of others. Neighbours are joined.
 unfoldable pub join_run : Run → List Run → List Run

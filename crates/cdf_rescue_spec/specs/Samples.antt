@@ -3,7 +3,8 @@ use Rattle.std.specs.Prelude.{ℕ, zero, suc, List, [], ◌∷◌, ◌++◌, len
 use Rattle.cdf_unit_prefix.specs.Layout.{layout_of}
 use Rattle.cdf_unit_prefix.specs.declared.Edition.TheVariants.{First, Second}
 use Rattle.cdf_unit_list.specs.Samples.{k1, k2}
-use Rattle.cdf_rescue_spec.specs.Salvage.{Run, Rescued, refusal, rescue_of}
+use Rattle.cdf_rescue_spec.specs.Salvage.{Rescued, refusal, rescue_of}
+use Rattle.cdf_rescue_spec.specs.declared.Run.{Run}
 
 -- Two templates P, with the keys A and B.
 abbrev key_a : List ℕ

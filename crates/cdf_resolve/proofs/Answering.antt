@@ -1,25 +1,17 @@
 -- The answer, stage by stage.
-use Prim.Native.Nat.{ℕ, ◌+◌, ◌≤◌}
-use mathlib.Core.Path.{◌≡◌, refl, sym, ap, ◌∙◌}
-use mathlib.Core.Bool.{true, false}
-use mathlib.Core.List.{List}
-use native.Mathlib.Omega.{arith}
-use borrow.Author.Tests.{eq-eqb, ne_eqb}
-use lib.ListN.{length}
-use lib.Seq.{sets-eq}
+use Rattle.std.proofs.Common.{ℕ, ◌+◌, ◌≤◌, ◌≡◌, refl, sym, ap, ◌∙◌, true, false, List, arith, eq-eqb, ne_eqb, length}
+use Rattle.std.proofs.lemmas.List.Edits.{sets-eq}
 use Rattle.cdf_unit_prefix.specs.Layout.{Layout}
 use Rattle.cdf_unit_list.specs.Units.{listing}
 use Rattle.cdf_unit_list.specs.Check.{Verdict, check_of}
 use Rattle.cdf_grammar.specs.Claims.{Accepted}
-use Rattle.cdf_check.specs.Answers.{as_answer, checked_of}
-use Rattle.cdf_check.specs.declared.Checked.{Checked}
-use Rattle.cdf_check.specs.declared.Checked.TheVariants as Checked
+use Rattle.cdf_check.specs.Answers.{as_answer, checked_of, Checked}
 use Rattle.cdf_check.proofs.Exact.{refused_numbered}
 use Rattle.cdf_lookup_spec.specs.Find.{is_group}
-use Rattle.cdf_resolve_spec.specs.Resolve.{refusal, ranks_of, resolved_of, list_after}
+use Rattle.cdf_lookup_spec.proofs.Choosing.{check_numbers}
+use Rattle.cdf_resolve_spec.specs.Resolve.{Resolved, refusal, ranks_of, resolved_of, list_after}
 use Rattle.cdf_resolve_spec.specs.Pass.{told_by}
 use Rattle.cdf_resolve_spec.specs.declared.Tally.{Tally}
-use Rattle.cdf_resolve_spec.specs.declared.Resolved.{Resolved}
 use Rattle.cdf_resolve_spec.specs.declared.Worst.{Worst}
 use Rattle.cdf_resolve_spec.specs.declared.Worst.TheVariants.{Fine, Lacking, Doubled, Crowded}
 use Rattle.cdf_resolve_spec.proofs.Claiming.{zero_told}
@@ -41,14 +33,25 @@ module _ (l : Layout) (s list : List ℕ) where
     unfolding as_answer
     accepts n e = let w : record { number = 0; value = n } ≡ check_of l s = rw e at answer in sym (ap (λ (v : Verdict). v.number) w)
 
-    pub by_check : c ≡ checked_of (listing l s) → (n at : ℕ) → c ≡ Checked.Refused n at → (r : Resolved) → r ≡ refusal n at → Answers r list
-    unfolding as_answer listing
-    by_check is n at e r f =
-        let w : record { number = n; value = at } ≡ check_of l s = rw e at answer in
-        let number = ap (λ (v : Verdict). v.number) w in
-        let value = ap (λ (v : Verdict). v.value) w in
-        let some : n ≡ 0 → ⊥ = refused_numbered l s true 0 n at (sym e ∙ is) in
-        by_refusal n at (claims.checked l s (length list) (λ z. some (number ∙ z)) ∙ rw (← number, ← value)) some r f
+    module _ (is : c ≡ checked_of (listing l s)) (n at : ℕ) (e : c ≡ Checked.Refused n at) where
+      told : record { number = n; value = at } ≡ check_of l s
+      unfolding as_answer
+      told = rw e at answer
+
+      some : n ≡ 0 → ⊥
+      unfolding listing
+      some = refused_numbered l s true 0 n at (sym e ∙ is)
+
+      pub numbered : (3 ≤ n) × (n ≤ 10)
+      numbered =
+          let number = ap (λ (v : Verdict). v.number) told in
+          rw number (check_numbers l s (λ z. some (number ∙ z)))
+
+      pub by_check : (r : Resolved) → r ≡ refusal n at → Answers r list
+      by_check r f =
+          let number = ap (λ (v : Verdict). v.number) told in
+          let value = ap (λ (v : Verdict). v.value) told in
+          by_refusal n at (claims.checked l s (length list) (λ z. some (number ∙ z)) ∙ rw (← number, ← value)) some r f
 
   -- and then the root.
   pub refused_root : Accepted l s → is_group (listing l s).units ≡ false → resolved_of l s (length list) ≡ refusal 7 0

@@ -1,30 +1,31 @@
 -- The walk over the units of an accepted E/R group: what stands behind each, and what it has met at the end.
-use Prim.Native.Nat.{ℕ, ◌+◌, ◌≤◌}
-use mathlib.Core.Path.{◌≡◌, refl, sym, ap, subst, ◌∙◌}
-use mathlib.Core.Bool.{true, false, cond, false≢true}
-use mathlib.Core.List.{List, [], ◌∷◌, reverse_aux}
+use Rattle.std.proofs.Common.{ℕ, ◌+◌, ◌≤◌, ◌<◌, ◌≡◌, refl, sym, ap, subst, ◌∙◌, true, cond, List, [], ◌∷◌, arith, eqb-true, eq-eqb, ne_eqb, eqb, ltb}
+use Rattle.std.proofs.Common.{length, length-append}
+use Rattle.std.proofs.lemmas.List.Edits.{sets}
+use mathlib.Core.List.{reverse_aux}
 use mathlib.Core.Option.{Option, none, some}
-use native.Mathlib.Omega.{arith}
-use borrow.Author.Tests.{eqb-true, eq-eqb, ne_eqb}
-use lib.Dec.{eqb, ltb}
-use lib.ListN.{length, length-append, replicate}
-use lib.Seq.{sets}
+use Rattle.std.specs.Prelude.{Result, Ok, Err}
+use Rattle.cdf_refusal.specs.declared.Fault.{Fault}
+use Rattle.cdf_refusal.proofs.Apart.{refuses}
 use Rattle.cdf_unit_table.specs.Ids.{er_group, template, temporary_key, entity_key}
 use Rattle.cdf_unit_table.proofs.Bools.{of_cond}
-use Rattle.cdf_unit_prefix.specs.Layout.{Layout, prefix_of}
+use Rattle.cdf_unit_prefix.specs.Layout.{Layout}
+use Rattle.cdf_unit_data.specs.Standing.{name_row, row_bytes}
 use Rattle.cdf_unit_list.specs.Units.{listing}
-use Rattle.cdf_unit_list.specs.Check.{check_of}
-use Rattle.cdf_unit_list.specs.Ranks.{ranked_units, ranked, standing}
+use Rattle.cdf_unit_list.specs.Ranks.{standing}
 use Rattle.cdf_unit_list.specs.declared.Unit.{Unit}
 use Rattle.cdf_unit_list.specs.declared.Ranked.{Ranked}
 use Rattle.cdf_grammar.specs.Claims.{Accepted}
 use Rattle.cdf_reader_spec.specs.Place.{fits}
 use Rattle.cdf_reader_spec.specs.Calls.{Reply, first_of, next_of}
-use Rattle.cdf_reader_runs.specs.Runs.{Outcome, outcome, afterwards, due}
-use Rattle.cdf_reader_runs.proofs.Readings.{begins}
-use Rattle.cdf_reader_runs.proofs.Further.{first_later, next_later}
+use Rattle.cdf_reader_runs.proofs.Further.{next_later}
 use Rattle.cdf_reader_runs.proofs.Folding.{Going, begun, turned, over}
 use Rattle.cdf_reader_runs.proofs.Looping as loop
+use Rattle.cdf_reader_advance.specs.Advancing.{advanced_by}
+use Rattle.cdf_reader.specs.View.{view, reply_of, reply_from, no_place}
+use Rattle.cdf_reader.specs.declared.Place.{Place}
+use Rattle.cdf_reader.specs.declared.Answer.{Answer}
+use Rattle.cdf_reader.proofs.Walking.{left, Inside, first_inside, is_next, next_inside, fewer}
 use Rattle.cdf_lookup_spec.specs.Find.{is_group}
 use Rattle.cdf_resolve_spec.specs.Resolve.{most_templates}
 use Rattle.cdf_resolve_spec.specs.Pass.{Pass, nothing_met, add_of, tell_of, held_for, met_of, Walk, walk_at, step_of}
@@ -34,6 +35,7 @@ use Rattle.cdf_resolve_spec.proofs.Leading.{Owner}
 use Rattle.cdf_resolve_spec.proofs.Pairing.{Pairs, Orderly}
 use Rattle.cdf_resolve_spec.proofs.Deciding.{met, pass_is, told_is, ranks_are}
 use Rattle.cdf_resolve.specs.Holding.{Within, Ready, OwnerLies, Keeps, Written, Meets, Passed}
+use Rattle.cdf_resolve.specs.declared.Template.{Template}
 use Rattle.cdf_resolve.proofs.Keeping.{ready}
 
 -- Pairs of the units behind some are those of all.
@@ -98,9 +100,9 @@ module _ (l : Layout) (s : List ℕ) (o : Orderly l s) (group : is_group (listin
 
   -- At the end of the walk.
   pub passed : (first : Ranked) (a : Reply) (w : Walk) → Going (step_of l s) l s (walk_at first nothing_met) a w → (a.number ≡ 0 → ⊥) →
-      (before after : List ℕ) (t : Tally) (starts owns ranks : List ℕ) → Keeps l (length s) w.pass t starts owns ranks →
+      (before after : List ℕ) (t : Tally) (held : List Template) → Keeps l (length s) w.pass t held →
       Written before w.pass after → Accepted l s → Passed l s before t after
-  passed first a w g end before after t starts owns ranks k written accepted =
+  passed first a w g end before after t held k written accepted =
       let all : w.pass ≡ met l s o =
       sym (ap (λ (x : Walk). x.pass) (over (step_of l s) l s (walk_at first nothing_met) a w g end).all) ∙ pass_is l s o first group in
       record {
@@ -111,83 +113,90 @@ module _ (l : Layout) (s : List ℕ) (o : Orderly l s) (group : is_group (listin
       }
 
   -- What the loop knows.
-  pub record Walking (before : List ℕ) (a : Reply) (owner : Ranked) (t : Tally) (starts owns ranks list : List ℕ) : Type 0 where
+  pub record Walking (before : List ℕ) (r : Result Answer Fault) (owner : Ranked) (t : Tally) (held : List Template) (list : List ℕ) : Type 0 where
     pub first : Ranked
     pub pass : Pass
-    pub going : Going (step_of l s) l s (walk_at first nothing_met) a (walk_at owner pass)
-    pub keeps : Keeps l (length s) pass t starts owns ranks
+    pub from : Place
+    pub going : Going (step_of l s) l s (walk_at first nothing_met) (reply_from from r) (walk_at owner pass)
+    pub keeps : Keeps l (length s) pass t held
     pub written : Written before pass list
-    pub count : a.number ≡ 0 → (t.count ≤ a.place.position) × (a.place.position ≤ length s)
+    pub count : (a : Answer) → r ≡ Ok a → t.count ≤ a.place.position
+    pub inside : Inside l s r
 
-  pub walk_begun : (before : List ℕ) (a : Reply) → a ≡ first_of l s →
-      Walking before a a.handed (record { templates = 0; count = 0; worst = Fine }) (replicate 256 0) (replicate 256 0) (replicate 256 0) before
-  walk_begun before a e = record {
-    first = a.handed;
+  pub walk_begun : (before : List ℕ) (owner : Ranked) (t : Tally) (held : List Template) → length held ≡ 256 →
+      (t.templates ≡ 0) × (t.count ≡ 0) × (t.worst ≡ Fine) → (r : Result Answer Fault) → reply_from no_place r ≡ first_of l s →
+      Walking before r owner t held before
+  walk_begun before owner t held full zero r e = record {
+    first = owner;
     pass = nothing_met;
-    going = begun (step_of l s) l s (walk_at a.handed nothing_met) a e;
+    from = no_place;
+    going = begun (step_of l s) l s (walk_at owner nothing_met) (reply_from no_place r) e;
     keeps = record {
       few = omega arith;
-      templates = refl;
-      count = refl;
-      worst = refl;
-      lies = record { first = omega arith; second = omega arith; each = λ i h. absurd (omega arith) };
-      starts_are = refl;
-      owns_are = refl;
-      ranks_are = refl;
+      templates = zero.0;
+      count = zero.1;
+      worst = zero.2;
+      lies = rw zero.0 tt;
+      full = full;
+      seen = rw zero.0;
     };
     written = refl;
-    count = λ z. let later = (rw (← e) at (first_later l s)) z in (omega arith, later.1);
+    count = λ a is. omega (arith, zero.1);
+    inside = first_inside l s r e;
   }
 
-  module _ (before : List ℕ) (a : Reply) (owner : Ranked) (t : Tally) (starts owns ranks list : List ℕ)
-      (w : Walking before a owner t starts owns ranks list) where
+  module _ (before : List ℕ) (r : Result Answer Fault) (owner : Ranked) (t : Tally) (held : List Template) (list : List ℕ)
+      (w : Walking before r owner t held list) where
     -- Behind the last unit.
-    pub walk_over : (a.number ≡ 0 → ⊥) → Accepted l s → Passed l s before t list
-    walk_over end accepted =
-        passed w.first a (walk_at owner w.pass) w.going end before list t starts owns ranks w.keeps w.written accepted
+    pub walk_over : (f : Fault) → r ≡ Err f → Accepted l s → Passed l s before t list
+    walk_over f is accepted =
+        passed w.first (reply_from w.from (Err f)) (walk_at owner w.pass) (rw is at w.going) (refuses f.refusal) before list t held w.keeps w.written
+        accepted
 
-    module _ (z : a.number ≡ 0) where
-      pub walk_ready : Ready l (length s) t starts owns ranks
-      walk_ready = ready l s w.pass t starts owns ranks w.keeps (omega (arith, (w.count z).0, (w.count z).1))
+    module _ (a : Answer) (is : r ≡ Ok a) where
+      goes : Going (step_of l s) l s (walk_at w.first nothing_met) (reply_of a) (walk_at owner w.pass)
+      goes = rw is at w.going
+
+      pub walk_ready : Ready l (length s) t held
+      walk_ready = ready l s w.pass t held w.keeps (omega (arith, w.count a is, w.inside a is))
 
       pub walk_lies : OwnerLies l (length s) a.handed.unit.id owner.unit
-      walk_lies = owner_lies w.first a (walk_at owner w.pass) w.going z
+      walk_lies = owner_lies w.first (reply_of a) (walk_at owner w.pass) goes refl
 
-      pub walk_fits : fits l (length s) a.place ≡ true
-      walk_fits = (turned (step_of l s) l s (walk_at w.first nothing_met) a (walk_at owner w.pass) w.going z).fit
+      fit : fits l (length s) (view a.place) ≡ true
+      fit = (turned (step_of l s) l s (walk_at w.first nothing_met) (reply_of a) (walk_at owner w.pass) goes refl).fit
 
-      next_going : Going (step_of l s) l s (walk_at w.first nothing_met) (next_of l s a.place)
+      next_going : Going (step_of l s) l s (walk_at w.first nothing_met) (next_of l s (view a.place))
           (walk_at a.handed (cond (eqb a.handed.unit.id temporary_key) (met_of l s w.pass owner) w.pass))
       unfolding step_of
-      next_going = (turned (step_of l s) l s (walk_at w.first nothing_met) a (walk_at owner w.pass) w.going z).next
+      next_going = (turned (step_of l s) l s (walk_at w.first nothing_met) (reply_of a) (walk_at owner w.pass) goes refl).next
 
-      -- One unit is met.
-      pub walk_on : (r : Tally) (starts' owns' ranks' list' : List ℕ) →
-          Meets l s owner a.handed.unit.id t starts owns ranks list r starts' owns' ranks' list' →
-          Walking before (next_of l s a.place) a.handed r starts' owns' ranks' list'
-      walk_on r starts' owns' ranks' list' m =
-          let now = m before w.pass w.keeps w.written in
-          let more = one_more l s w.pass owner a.handed.unit.id in
-          record {
-            first = w.first;
-            pass = cond (eqb a.handed.unit.id temporary_key) (met_of l s w.pass owner) w.pass;
-            going = next_going;
-            keeps = now.0;
-            written = now.1;
-            count = λ y.
-                let later = next_later l s a.place y in
-                (omega (arith, later.0, more, now.0.count, w.keeps.count, (w.count z).0), later.1);
-          }
+      -- The place fits, so a step from it by 01's row is NEXT.
+      module _ (row : List ℕ) (by : row ≡ name_row) (q : Result Answer Fault)
+          (e : reply_from a.place q ≡ advanced_by (row_bytes row) l s (view a.place)) where
+        pub walk_less : left l s q < left l s r
+        walk_less = rw is (fewer l s a fit row by q e (w.inside a is))
 
-  -- The root's own data end with its prefix.
-  pub root_width : (a : Reply) → a ≡ first_of l s → a.handed.unit.own ≡ prefix_of l
-  unfolding outcome afterwards due is_group ranked_units ranked standing
-  root_width a e = go (listing l s).units refl (ap outcome e ∙ begins l s) group
-    where
-      go : (us : List Unit) → (listing l s).units ≡ us → outcome a ≡ due (afterwards (check_of l s)) (ranked [] us) 0 → is_group us ≡ true →
-          a.handed.unit.own ≡ prefix_of l
-      go [] f x g = absurd (false≢true g)
-      go (u ∷ us) f x g = ap (λ (r : Outcome). r.handed.unit.own) x ∙ o.root u us f (eqb-true u.id er_group g)
+        -- One unit is met.
+        pub walk_on : (r' : Tally) (held' : List Template) (list' : List ℕ) →
+            Meets l s owner a.handed.unit.id t held list r' held' list' → Walking before q a.handed r' held' list'
+        walk_on r' held' list' m =
+            let now = m before w.pass w.keeps w.written in
+            let more = one_more l s w.pass owner a.handed.unit.id in
+            let same = is_next l s a fit row by q e in
+            record {
+              first = w.first;
+              pass = cond (eqb a.handed.unit.id temporary_key) (met_of l s w.pass owner) w.pass;
+              from = a.place;
+              going = rw same next_going;
+              keeps = now.0;
+              written = now.1;
+              count = λ b to.
+                  let here = rw to at same in
+                  let later = (rw (← here) at (next_later l s (view a.place))) refl in
+                  omega (arith, later.0, more, now.0.count, w.keeps.count, w.count a is);
+              inside = next_inside l s a fit row by q e;
+            }
 
 -- A unit with a key behind it, by its kind.
 module _ (l : Layout) (s : List ℕ) (p : Pass) (o : Ranked) (id : ℕ) where

@@ -16,7 +16,14 @@ pub extern "C" fn cdf_resolve(s: &[u8], list: &mut [u64], answer: &mut [u64; 2])
     ensures answer { answer.new ≡ answer_of (resolved_of (layout_for s.now) s.now (length list.old)) }
     ensures ranks { list.new ≡ list_after (layout_for s.now) s.now list.old }
 {
-    let told = resolve(s, list);
-    *answer = [told.offset as u64, told.count as u64];
-    told.number as u64
+    match resolve(s, list) {
+        Ok(count) => {
+            *answer = [0, count as u64];
+            0
+        }
+        Err(fault) => {
+            *answer = [fault.offset as u64, 0];
+            fault.refusal.number() as u64
+        }
+    }
 }

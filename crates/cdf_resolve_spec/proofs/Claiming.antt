@@ -1,14 +1,8 @@
 -- What is claimed, by the cases of the answer.
-use Prim.Native.Nat.{ℕ, ◌≤◌, ◌<◌}
-use mathlib.Core.Path.{◌≡◌, refl, sym, subst, ◌∙◌}
-use mathlib.Core.Bool.{true, false, not, false≢true}
-use mathlib.Core.List.{List, [], ◌∷◌, ◌++◌}
-use mathlib.Core.Logic.{◌⊎◌, inl, inr, ◌↔◌}
+use Rattle.std.proofs.Common.{ℕ, ◌≤◌, ◌<◌, ◌≡◌, refl, sym, subst, ◌∙◌, true, false, not, List, [], ◌∷◌, ◌++◌, ◌⊎◌, inl, inr, ◌↔◌, arith, eqb-true}
+use Rattle.std.proofs.Common.{eq-eqb, ne_eqb, ltb-true, ltb-false, eqb, ltb, length, drop}
+use Rattle.std.proofs.lemmas.Bool.{false≢true, eqb-false, not-true, not-false}
 use mathlib.Core.Option.{Option, none, some}
-use native.Mathlib.Omega.{arith}
-use borrow.Author.Tests.{eqb-true, eqb-false, eq-eqb, ne_eqb, ltb-true, ltb-false, not-true, not-false}
-use lib.Dec.{eqb, ltb}
-use lib.ListN.{length, drop}
 use Rattle.cdf_unit_table.proofs.Bools.{of_cond}
 use Rattle.cdf_unit_prefix.specs.Layout.{Layout}
 use Rattle.cdf_unit_list.specs.Units.{listing}
@@ -21,10 +15,9 @@ use Rattle.cdf_lookup_spec.proofs.Telling.{first_some, first_none}
 use Rattle.cdf_lookup_spec.proofs.Choosing.{check_numbers}
 use Rattle.cdf_lookup_spec.proofs.Deciding.{grouped, group_test}
 use Rattle.cdf_resolve_spec.specs.Resolve.{unstored, is_doubled, is_lacking, count_that, ranks_of, refusal, refused_at, counted, resolved_of}
-use Rattle.cdf_resolve_spec.specs.Resolve.{list_after}
+use Rattle.cdf_resolve_spec.specs.Resolve.{Resolved, list_after}
 use Rattle.cdf_resolve_spec.specs.Words.{In, Count, Unstored, Doubled, Lacking, Ranks}
 use Rattle.cdf_resolve_spec.specs.Claims.{Eligible}
-use Rattle.cdf_resolve_spec.specs.declared.Resolved.{Resolved}
 use Rattle.cdf_resolve_spec.proofs.Saying.{first_in, count_is, is_count, unstored_tells, doubled_tells, lacking_tells, ranks_told}
 
 -- None of these has a property that one of them has.

@@ -1,14 +1,8 @@
 -- What a pass over the units of an accepted stream has met is what the definition says.
-use Prim.Native.Nat.{ℕ, suc, ◌+◌, ◌≤◌, ◌<◌}
-use mathlib.Core.Path.{◌≡◌, refl, sym, ap, subst, ◌∙◌}
-use mathlib.Core.Bool.{Bool, true, false, not, cond, ◌&&◌}
-use mathlib.Core.List.{List, [], ◌∷◌, ◌++◌, foldl, append-nil}
-use mathlib.Core.Logic.{◌⊎◌, inl, inr}
+use Rattle.std.proofs.Common.{ℕ, suc, ◌+◌, ◌≤◌, ◌<◌, ◌≡◌, refl, sym, ap, subst, ◌∙◌, Bool, true, false, not, cond, ◌&&◌, List, [], ◌∷◌, ◌++◌}
+use Rattle.std.proofs.Common.{append-nil, ◌⊎◌, inl, inr, arith, eqb-true, ne_eqb, eq-eqb, ltb-true, ltb-false, eqb, ltb, length}
+use mathlib.Core.List.{foldl}
 use mathlib.Core.Option.{Option, none, some}
-use native.Mathlib.Omega.{arith}
-use borrow.Author.Tests.{eqb-true, ne_eqb, eq-eqb, ltb-true, ltb-false}
-use lib.Dec.{eqb, ltb}
-use lib.ListN.{length}
 use lib.Seq.{append_snoc}
 use Rattle.cdf_unit_table.specs.Ids.{er_group, template, temporary_key, entity_key}
 use Rattle.cdf_unit_table.proofs.Bools.{both, clash}

@@ -1,12 +1,6 @@
 -- Exactly the groups in which no template is doubled and each entity key has its one template are resolved.
-use Prim.Native.Nat.{ℕ, suc, ◌≤◌, ◌<◌}
-use mathlib.Core.Path.{◌≡◌, refl, sym, ap, ◌∙◌}
-use mathlib.Core.Bool.{Bool, true, false}
-use mathlib.Core.List.{List, [], ◌∷◌}
-use mathlib.Core.Logic.{◌⊎◌, inl, inr, ◌↔◌}
-use native.Mathlib.Omega.{arith}
-use borrow.Author.Tests.{ltb-true, ltb-false}
-use lib.Dec.{ltb}
+use Rattle.std.proofs.Common.{ℕ, suc, ◌≤◌, ◌<◌, ◌≡◌, refl, sym, ap, ◌∙◌, Bool, true, false, List, [], ◌∷◌, ◌⊎◌, inl, inr, ◌↔◌, arith, ltb-true}
+use Rattle.std.proofs.Common.{ltb-false, ltb}
 use Rattle.cdf_unit_table.specs.Ids.{entity_key}
 use Rattle.cdf_unit_prefix.specs.Layout.{Layout, layout_of}
 use Rattle.cdf_unit_prefix.specs.declared.Edition.{Edition}
@@ -16,10 +10,9 @@ use Rattle.cdf_grammar.specs.Encoding.{Bytes}
 use Rattle.cdf_grammar.proofs.Proved.{proved}
 use Rattle.cdf_lookup_spec.specs.Chosen.{None}
 use Rattle.cdf_lookup_spec.proofs.Ordered.{Rising}
-use Rattle.cdf_resolve_spec.specs.Resolve.{is_lacking, refusal, resolved_of}
+use Rattle.cdf_resolve_spec.specs.Resolve.{Resolved, is_lacking, refusal, resolved_of}
 use Rattle.cdf_resolve_spec.specs.Words.{In, HasTemporary, Earlier, Doubled, MeansOne}
 use Rattle.cdf_resolve_spec.specs.Claims.{Eligible}
-use Rattle.cdf_resolve_spec.specs.declared.Resolved.{Resolved}
 use Rattle.cdf_resolve_spec.proofs.Pairing.{Orderly, orderly}
 use Rattle.cdf_resolve_spec.proofs.Saying.{none_passes, first_in, has_one}
 use Rattle.cdf_resolve_spec.proofs.Claiming.{none_in, told, first_doubled, no_doubled, first_lacking, neither}

@@ -1,5 +1,5 @@
 -- The claims of this crate, proved.
-use mathlib.Core.Path.{◌≡◌, refl}
+use Rattle.std.proofs.Common.{◌≡◌, refl}
 use Rattle.cdf_resolve_spec.specs.Samples.{samples_found, samples_due}
 use Rattle.cdf_resolve_spec.specs.Claims.{Claims}
 use Rattle.cdf_resolve_spec.proofs.Claiming.{check_first, seven_is, many_is, nineteen_is, twenty_is, doubled_first, lacking_first}

@@ -1,12 +1,8 @@
 -- What the tests of the definition tell, in the words of the claims.
-use Prim.Native.Nat.{ℕ, suc}
-use mathlib.Core.Path.{◌≡◌, refl, sym, ap, subst, ◌∙◌}
-use mathlib.Core.Bool.{Bool, true, false, not, cond, ◌&&◌, false≢true}
-use mathlib.Core.List.{List, [], ◌∷◌}
-use mathlib.Core.Logic.{◌⊎◌, inl, inr}
+use Rattle.std.proofs.Common.{ℕ, suc, ◌≡◌, refl, sym, ap, subst, ◌∙◌, Bool, true, false, not, cond, ◌&&◌, List, [], ◌∷◌, ◌⊎◌, inl, inr, eqb-true}
+use Rattle.std.proofs.Common.{eq-eqb, ltb-true, lt-ltb, eqb, ltb}
+use Rattle.std.proofs.lemmas.Bool.{false≢true, not-true}
 use mathlib.Core.Option.{Option, none, some}
-use borrow.Author.Tests.{eqb-true, eq-eqb, ltb-true, lt-ltb, not-true}
-use lib.Dec.{eqb, ltb}
 use Rattle.cdf_unit_table.specs.Ids.{template, temporary_key, entity_key}
 use Rattle.cdf_unit_table.proofs.Bools.{both, clash}
 use Rattle.cdf_unit_prefix.specs.Layout.{Layout}

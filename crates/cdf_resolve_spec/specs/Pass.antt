@@ -6,8 +6,7 @@ use Rattle.cdf_unit_prefix.specs.Layout.{Layout, prefix_of}
 use Rattle.cdf_unit_list.specs.declared.Unit.{Unit}
 use Rattle.cdf_unit_list.specs.declared.Ranked.{Ranked}
 use Rattle.cdf_lookup_spec.specs.Find.{cut, name_of, same_bytes}
-use Rattle.cdf_resolve_spec.specs.Resolve.{most_templates, rank_that, is_there, refusal, counted}
-use Rattle.cdf_resolve_spec.specs.declared.Resolved.{Resolved}
+use Rattle.cdf_resolve_spec.specs.Resolve.{most_templates, Resolved, rank_that, is_there, refusal, counted}
 use Rattle.cdf_resolve_spec.specs.declared.Worst.{Worst}
 use Rattle.cdf_resolve_spec.specs.declared.Worst.TheVariants.{Fine, Lacking, Doubled, Crowded}
 

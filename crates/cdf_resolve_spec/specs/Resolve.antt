@@ -9,7 +9,6 @@ use Rattle.cdf_unit_list.specs.Ranks.{ranked_units}
 use Rattle.cdf_unit_list.specs.declared.Unit.{Unit}
 use Rattle.cdf_unit_list.specs.declared.Ranked.{Ranked}
 use Rattle.cdf_lookup_spec.specs.Find.{Query, query, name_of, key_of, is_key, inside, first_that, passes, is_that_template, is_group}
-use Rattle.cdf_resolve_spec.specs.declared.Resolved.{Resolved}
 
 -- How many templates with temporary keys a group may have (02, i).
 abbrev pub most_templates : ℕ
@@ -90,6 +89,12 @@ ranks_from l s (u ∷ us) = cond (asks l s u) (with_rank (meant_by l s u) (ranks
 unfoldable pub ranks_of : Layout → List ℕ → List ℕ
 unfolding ranks_from listing
 ranks_of l s = ranks_from l s (listing l s).units
+
+-- What resolving answers: the number and its offset, and how many ranks are written; 0 of them on a refusal.
+pub record Resolved : Type 0 where
+  pub number : ℕ
+  pub offset : ℕ
+  pub count : ℕ
 
 -- A refusal writes none.
 abbrev pub refusal : ℕ → ℕ → Resolved

@@ -4,8 +4,7 @@ use Rattle.cdf_unit_prefix.specs.Layout.{layout_of}
 use Rattle.cdf_unit_prefix.specs.declared.Edition.TheVariants.{First}
 use Rattle.cdf_unit_list.specs.Samples.{k1, k2}
 use Rattle.cdf_grammar.specs.Encoding.{unit_bytes}
-use Rattle.cdf_resolve_spec.specs.Resolve.{refusal, resolved_of, list_after}
-use Rattle.cdf_resolve_spec.specs.declared.Resolved.{Resolved}
+use Rattle.cdf_resolve_spec.specs.Resolve.{Resolved, refusal, resolved_of, list_after}
 
 -- A unit of the first edition: its id and action, its own data, the units in it.
 unfoldable unit : ℕ → ℕ → List ℕ → List ℕ → List ℕ

@@ -3,6 +3,7 @@
 
 ghost use Rattle.cdf_table_reader_replay_spec.specs.Replay.{TableReplayed};
 
+use cdf_refusal::tell;
 use cdf_table_reader_replay::table_replay;
 
 // A run of calls, by their codes: the number; in answer how many entries of the log were written.
@@ -15,7 +16,5 @@ pub extern "C" fn cdf_table_replay(
 ) -> u64
     ensures { TableReplayed s.now calls.now log.old result log.new answer.new }
 {
-    let logged = table_replay(s, calls, log);
-    *answer = [logged.count as u64];
-    logged.number as u64
+    tell(table_replay(s, calls, log), answer)
 }

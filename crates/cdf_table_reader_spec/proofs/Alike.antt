@@ -1,19 +1,11 @@
 -- By the table's list the table reader is the first one: at each call, at any place.
-use Prim.Native.Nat.{ℕ, ◌-◌}
-use mathlib.Core.Path.{◌≡◌, refl, sym, ap, ◌∙◌}
-use mathlib.Core.Bool.{Bool, true, false, not, cond}
-use mathlib.Core.List.{List, [], ◌∷◌}
-use native.Mathlib.Omega.{arith}
-use borrow.Author.Tests.{leb-true}
-use lib.Dec.{leb, eqb, ltb}
-use lib.ListN.{length, take, drop}
+use Rattle.std.proofs.Common.{ℕ, ◌-◌, ◌≡◌, refl, sym, ap, ◌∙◌, Bool, true, false, not, cond, List, [], ◌∷◌, arith, leb-true, leb, eqb, ltb, length}
+use Rattle.std.proofs.Common.{take, drop}
 use Rattle.cdf_unit_table.specs.States.{complete, admits, states_end}
 use Rattle.cdf_unit_table.proofs.Bools.{both}
 use Rattle.cdf_unit_table.proofs.Rows.{admits_nested}
 use Rattle.cdf_unit_prefix.specs.Layout.{Layout}
-use Rattle.cdf_unit_prefix.specs.Rules.{head_of}
-use Rattle.cdf_unit_prefix.specs.declared.Header.{Header}
-use Rattle.cdf_unit_prefix.specs.declared.Header.TheVariants.{Stop, Prefix}
+use Rattle.cdf_unit_prefix.specs.Rules.{head_of, Head, Stop, Prefix}
 use Rattle.cdf_unit_data.specs.Data.{name_bytes}
 use Rattle.cdf_unit_judge.specs.Judge.{judge_head, judge_by, judge_in, judge_of}
 use Rattle.cdf_unit_list.specs.Stack.{incomplete, left, close, entered, with_state, step_in_with, step_in_by, step_in, step_with, step_by, step}
@@ -33,7 +25,7 @@ use Rattle.cdf_table_reader_spec.proofs.Asking.{table_tests}
 
 -- Admissions that are the same make the same judge.
 module _ (l : Layout) (root : Bool) (f g : ℕ → ℕ) (is : (id : ℕ) → f id ≡ g id) (s : List ℕ) where
-  by_head : (h : Header) → judge_head name_bytes l f s h ≡ judge_head name_bytes l g s h
+  by_head : (h : Head) → judge_head name_bytes l f s h ≡ judge_head name_bytes l g s h
   unfolding judge_head
   by_head (Stop n) = refl
   by_head (Prefix id action len) = rw (is id)

@@ -1,24 +1,13 @@
 -- By any list as the table, that list decides what may come next.
-use Prim.Native.Nat.{ℕ, ◌-◌}
-use mathlib.Core.Path.{◌≡◌, refl, sym, ap, ◌∙◌}
-use mathlib.Core.Bool.{Bool, true, false, cond, not, ◌&&◌, true≢false}
-use mathlib.Core.List.{List, [], ◌∷◌}
-use native.Mathlib.Omega.{arith}
-use borrow.Author.Tests.{eqb-true, eqb-false}
-use lib.Dec.{eqb}
-use lib.ListN.{length, take, drop}
+use Rattle.std.proofs.Common.{ℕ, ◌-◌, ◌≡◌, refl, sym, ap, ◌∙◌, Bool, true, false, cond, not, ◌&&◌, true≢false, List, [], ◌∷◌, arith, eqb-true, eqb}
+use Rattle.std.proofs.Common.{length, take, drop}
+use Rattle.std.proofs.lemmas.Bool.{eqb-false}
 use Rattle.cdf_unit_table.specs.States.{complete}
 use Rattle.cdf_unit_table.proofs.Bools.{of_cond}
 use Rattle.cdf_unit_prefix.specs.Layout.{Layout, prefix_of}
-use Rattle.cdf_unit_prefix.specs.Rules.{head_of}
-use Rattle.cdf_unit_prefix.specs.declared.Header.{Header}
-use Rattle.cdf_unit_prefix.specs.declared.Header.TheVariants.{Stop, Prefix}
+use Rattle.cdf_unit_prefix.specs.Rules.{head_of, Head, Stop, Prefix}
 use Rattle.cdf_unit_data.specs.Data.{name_bytes}
-use Rattle.cdf_unit_judge.specs.Judge.{body_of, found_by, judge_head, judge_by}
-use Rattle.cdf_unit_judge.specs.declared.Body.{Body}
-use Rattle.cdf_unit_judge.specs.declared.Body.TheVariants.{Action, Data, Whole}
-use Rattle.cdf_unit_judge.specs.declared.Judged.{Judged}
-use Rattle.cdf_unit_judge.specs.declared.Judged.TheVariants.{Fault, Found}
+use Rattle.cdf_unit_judge.specs.Judge.{body_of, found_by, judge_head, judge_by, Body, Action, Data, Whole, Judged, Fault, Found}
 use Rattle.cdf_unit_judge.proofs.Faults.{OfHeader, of_head}
 use Rattle.cdf_unit_list.specs.Stack.{incomplete, left, close, opened, entered, with_state, step_in_with, step_with}
 use Rattle.cdf_unit_list.specs.declared.Open.{Open}
@@ -46,7 +35,7 @@ module _ (table : List ℕ) (l : Layout) (root : Bool) (state : ℕ) (s : List �
   by_body id action len some (Data k) = (λ z. omega arith, λ z. absurd (omega arith))
   by_body id action len some (Whole k) = (refl, some)
 
-  by_head : (h : Header) → head_of l root s ≡ h → OfHeader h → ByEntry (judge_head name_bytes l (looked table state) s h)
+  by_head : (h : Head) → head_of l root s ≡ h → OfHeader h → ByEntry (judge_head name_bytes l (looked table state) s h)
   unfolding judge_head
   by_head (Stop n) q w = (λ z. omega (arith, w), λ z. absurd (omega (arith, w)))
   by_head (Prefix id action len) q w =

@@ -1,7 +1,6 @@
 pub mod Looks
 pub mod Staged
 pub mod Asking
-pub mod Starting
 pub mod Driven
 pub mod Alike
 pub mod Other

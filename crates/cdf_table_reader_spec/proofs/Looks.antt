@@ -1,17 +1,9 @@
 -- A look into the table's list: from the list that is made by the rule to the rule at an entry.
-use Prim.Native.Nat.{ℕ, zero, suc, ◌+◌, ◌*◌, ◌-◌, ◌/◌, ◌%◌, ◌<◌, ◌≤◌}
-use mathlib.Core.Path.{◌≡◌, refl, sym, ap, ◌∙◌}
-use mathlib.Core.Bool.{Bool, true, false, cond}
-use mathlib.Core.List.{List}
-use mathlib.Core.Logic.{◌⊎◌, inl, inr}
-use native.Mathlib.Omega.{arith}
-use native.Mathlib.Nat.{suc-add, add-suc, add-zero}
-use borrow.Author.Tests.{ne_eqb, eqb-true, ltb-true, ltb-false, lt-ltb, le-ltb}
-use lib.Dec.{T, eqb, ltb, ltb→lt}
-use lib.ListN.{get_or}
+use Rattle.std.proofs.Common.{ℕ, zero, suc, ◌+◌, ◌*◌, ◌-◌, ◌/◌, ◌%◌, ◌<◌, ◌≤◌, ◌≡◌, refl, sym, ap, ◌∙◌, Bool, true, false, cond, List, ◌⊎◌, inl, inr}
+use Rattle.std.proofs.Common.{arith, suc-add, add-suc, add-zero, ne_eqb, eqb-true, ltb-true, ltb-false, lt-ltb, le-ltb, T, eqb, ltb, get_or}
 use Rattle.cdf_unit_table.specs.Ids.{member, stream, er_group, file_group}
 use Rattle.cdf_unit_table.specs.States.{rows, admit, root_kind, nothing, unit_of}
-use Rattle.cdf_unit_table.proofs.Rows.{all_rows, from_rows, admit_past, admit_unknown}
+use Rattle.cdf_unit_table.proofs.Rows.{all_rows, from_rows, admit_past, admit_none, admit_unknown}
 use Rattle.cdf_unit_table.proofs.Tests.{is_true}
 use Rattle.cdf_table_reader_spec.specs.Table.{looked, entry_of, entries_from, entries}
 
@@ -35,11 +27,6 @@ past : (state id : ℕ) → 30 < state → 0 ≡ entry_of state id
 unfolding entry_of
 past state id h = rw (ne_eqb state 0 (λ z. omega arith)) (sym (admit_past state id (omega arith)))
 
-admit_zero : (state : ℕ) → admit state 0 ≡ 0
-unfolding admit
-admit_zero state =
-    from_rows (λ n. n ≡ 0) (λ r. ltb 0 r.child) state 0 refl (λ r t d e. absurd (omega (arith, ltb→lt 0 r.child t))) rows tt
-
 -- before the ids,
 none : (state id : ℕ) → id < 1 → 0 ≡ entry_of state id
 unfolding entry_of root_kind member
@@ -47,7 +34,7 @@ none state id h = let z : id ≡ 0 = omega arith in rw z (go (eqb state 0))
   where
     go : (b : Bool) → 0 ≡ cond b 0 (admit state 0)
     go true = refl
-    go false = sym (admit_zero state)
+    go false = sym (admit_none state)
 
 -- or past them.
 unknown : (state id : ℕ) → 14 < id → 0 ≡ entry_of state id

@@ -1,9 +1,5 @@
 -- The term of the claims.
-use Prim.Native.Nat.{ℕ}
-use mathlib.Core.Path.{◌≡◌, refl, sym}
-use mathlib.Core.Bool.{Bool, true, false, cond}
-use mathlib.Core.Logic.{◌⊎◌, inl, inr}
-use lib.ListN.{length}
+use Rattle.std.proofs.Common.{ℕ, ◌≡◌, refl, sym, Bool, true, false, cond, ◌⊎◌, inl, inr, length}
 use Rattle.cdf_unit_table.specs.States.{nothing, root_kind, unit_of, admits_kind}
 use Rattle.cdf_reader_spec.specs.Place.{nested, every, positioned, at_last}
 use Rattle.cdf_table_reader_spec.specs.Table.{looked, entries}

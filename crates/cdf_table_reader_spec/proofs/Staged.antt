@@ -1,8 +1,5 @@
 -- The table's judge is a judge by an admission: the look into any list.
-use Prim.Native.Nat.{ℕ}
-use mathlib.Core.Path.{◌≡◌, refl}
-use mathlib.Core.Bool.{Bool}
-use mathlib.Core.List.{List}
+use Rattle.std.proofs.Common.{ℕ, ◌≡◌, refl, Bool, List}
 use Rattle.cdf_unit_prefix.specs.Layout.{Layout}
 use Rattle.cdf_unit_data.specs.Data.{name_bytes}
 use Rattle.cdf_unit_judge.specs.Judge.{judge_by}

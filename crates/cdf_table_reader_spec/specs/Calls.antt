@@ -3,8 +3,7 @@
 use Rattle.std.specs.Prelude.{ℕ, Bool, true, false, not, cond, List, [], length}
 use Rattle.cdf_unit_prefix.specs.Layout.{Layout}
 use Rattle.cdf_unit_data.specs.Data.{name_bytes}
-use Rattle.cdf_unit_judge.specs.Judge.{judge_by}
-use Rattle.cdf_unit_judge.specs.declared.Judged.{Judged}
+use Rattle.cdf_unit_judge.specs.Judge.{judge_by, Judged}
 use Rattle.cdf_unit_list.specs.Stack.{entered}
 use Rattle.cdf_reader_spec.specs.Place.{ReaderPlace, is_empty, fits}
 use Rattle.cdf_reader_spec.specs.Calls.{Reply, refuse, empty_place, stepped, untouched, passing}

@@ -2,8 +2,7 @@
 use Rattle.std.specs.Prelude.{ℕ, ◌+◌, ◌*◌, ◌-◌, ◌≤◌, ◌<◌, ◌≡◌, Bool, true, false, cond, List, ◌∷◌, ◌⊎◌, length, take, drop, get_or}
 use Rattle.cdf_unit_table.specs.States.{unit_of, nothing, admit, root_kind}
 use Rattle.cdf_unit_prefix.specs.Layout.{Layout}
-use Rattle.cdf_unit_prefix.specs.Rules.{head_of}
-use Rattle.cdf_unit_prefix.specs.declared.Header.TheVariants.{Prefix}
+use Rattle.cdf_unit_prefix.specs.Rules.{head_of, Prefix}
 use Rattle.cdf_unit_list.specs.Samples.{k2, k4}
 use Rattle.cdf_unit_list.specs.Stack.{opened, with_state}
 use Rattle.cdf_unit_list.specs.declared.Open.{Open}

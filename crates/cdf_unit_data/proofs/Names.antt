@@ -1,16 +1,8 @@
 -- The bytes of a name, one by one, whichever may stand in it.
-use Prim.Native.Nat.{ℕ, suc, ◌+◌, ◌-◌, ◌≤◌, ◌<◌}
-use mathlib.Core.Path.{◌≡◌, refl, sym, ◌∙◌}
-use mathlib.Core.Bool.{Bool, true, false, cond, ◌&&◌}
-use mathlib.Core.List.{List, [], ◌∷◌}
-use native.Mathlib.Omega.{arith}
-use native.Mathlib.Numerals.{add-one}
-use lib.Dec.{leb}
-use lib.ListN.{length, take, drop, get_or, drop_of_length-le, length-take}
-use lib.Seq.{drop-cons}
-use borrow.Author.Tests.{le-leb}
+use Rattle.std.proofs.Common.{ℕ, suc, ◌+◌, ◌-◌, ◌≤◌, ◌<◌, ◌≡◌, refl, sym, ◌∙◌, Bool, true, false, cond, ◌&&◌, List, [], ◌∷◌, arith, add-one, leb}
+use Rattle.std.proofs.Common.{length, take, drop, get_or, drop_of_length-le, length-take, drop-cons, le-leb}
 use Rattle.cdf_unit_data.specs.Data.{NameBytes, run_by, front_by, spelled, name_by}
-use Rattle.cdf_unit_data.specs.declared.Own.TheVariants.{Broken}
+use Rattle.std.specs.Prelude.{Err}
 
 one_more : (t : Bool) (n m : ℕ) → n ≤ m → cond t (suc n) 0 ≤ suc m
 one_more true n m h = omega arith
@@ -69,25 +61,25 @@ module _ (w : NameBytes) where
     unfolding run_by
     ended h = sym (r.same ∙ rw (drop_of_length-le s h) (omega arith))
 
-  pub name_none : (s : List ℕ) → length s ≡ 0 → Broken 0 ≡ name_by w s
+  pub name_none : (s : List ℕ) → length s ≡ 0 → Err 0 ≡ name_by w s
   unfolding name_by
   name_none [] e = refl
   name_none (b ∷ s) e = absurd (omega arith)
 
   after_count : (b : ℕ) (s : List ℕ) → name_by w (b ∷ s) ≡
-      cond (leb 1 b && (leb b 32 && leb b (length (b ∷ s) - 1))) (spelled b (front_by w (take b (drop 1 (b ∷ s))))) (Broken 0)
+      cond (leb 1 b && (leb b 32 && leb b (length (b ∷ s) - 1))) (spelled b (front_by w (take b (drop 1 (b ∷ s))))) (Err 0)
   unfolding name_by
   after_count b s = let e : suc (length s) - 1 ≡ length s = omega arith in rw e
 
   -- a name's count and the bytes after it
   module _ (s : List ℕ) (some : length s ≡ 0 → ⊥) (count : ℕ) (is : count ≡ get_or s 0 0) where
     pub name_is : name_by w s ≡
-        cond (leb 1 count && (leb count 32 && leb count (length s - 1))) (spelled count (front_by w (take count (drop 1 s)))) (Broken 0)
+        cond (leb 1 count && (leb count 32 && leb count (length s - 1))) (spelled count (front_by w (take count (drop 1 s)))) (Err 0)
     name_is = rw is (go s some)
       where
         go : (s : List ℕ) → (length s ≡ 0 → ⊥) → name_by w s ≡
             cond (leb 1 (get_or s 0 0) && (leb (get_or s 0 0) 32 && leb (get_or s 0 0) (length s - 1)))
-            (spelled (get_or s 0 0) (front_by w (take (get_or s 0 0) (drop 1 s)))) (Broken 0)
+            (spelled (get_or s 0 0) (front_by w (take (get_or s 0 0) (drop 1 s)))) (Err 0)
         go [] some = absurd (some refl)
         go (b ∷ s) some = after_count b s
 

@@ -1,18 +1,13 @@
 -- The byte that a broken name names is the first that offends: bytes that agree up to it are broken there too, and with letters from
 -- it on the name is right.
-use Prim.Native.Nat.{ℕ, zero, suc, ◌+◌, ◌-◌, ◌≤◌, ◌<◌}
-use mathlib.Core.Path.{◌≡◌, refl, sym, ap, ◌∙◌}
-use mathlib.Core.Bool.{Bool, true, false, cond, ◌&&◌, false≢true}
-use mathlib.Core.List.{List, [], ◌∷◌, ◌++◌}
-use mathlib.Core.Logic.{◌⊎◌, inl, inr}
-use native.Mathlib.Omega.{arith}
-use borrow.Author.Tests.{leb-true, eqb-true, eqb-false, eq-eqb}
-use lib.Dec.{leb, eqb}
-use lib.ListN.{length, take, replicate, length-append, length-take, length-replicate}
+use Rattle.std.proofs.Common.{ℕ, zero, suc, ◌+◌, ◌-◌, ◌≤◌, ◌<◌, ◌≡◌, refl, sym, ap, ◌∙◌, Bool, true, false, cond, ◌&&◌, List, [], ◌∷◌, ◌++◌, ◌⊎◌, inl}
+use Rattle.std.proofs.Common.{inr, arith, leb-true, eqb-true, eq-eqb, leb, eqb, length, take, replicate, length-append, length-take}
+use Rattle.std.proofs.lemmas.Bool.{false≢true, eqb-false}
+use Rattle.std.proofs.lemmas.List.{length-replicate}
 use Rattle.cdf_unit_table.proofs.Bools.{both, clash}
 use Rattle.cdf_unit_data.specs.Data.{letter, name_byte, name_bytes, run_by, front_by, name_by, name_run, name_front, spelled, name_of}
 use Rattle.cdf_unit_data.specs.Claims.{Agree, Named, lettered}
-use Rattle.cdf_unit_data.specs.declared.Own.TheVariants.{Taken, Broken}
+use Rattle.std.specs.Prelude.{Ok, Err}
 use Rattle.cdf_unit_data.proofs.Names.{front_short}
 
 -- One more byte in front, which may stand where it does (`p`) or not.
@@ -89,19 +84,19 @@ record Bad (count : ℕ) (s : List ℕ) (k : ℕ) : Type 0 where
   is : k ≡ suc (name_front (take count s))
   short : name_front (take count s) < count
 
-broken : (count : ℕ) (s : List ℕ) (k : ℕ) → name_of (count ∷ s) ≡ Broken k → ((counts count (length s) ≡ false) × (k ≡ 0)) ⊎ Bad count s k
+broken : (count : ℕ) (s : List ℕ) (k : ℕ) → name_of (count ∷ s) ≡ Err k → ((counts count (length s) ≡ false) × (k ≡ 0)) ⊎ Bad count s k
 unfolding name_by spelled
 broken count s k e = go (counts count (length s)) refl e
   where
     front : ℕ
     front = name_front (take count s)
 
-    spell : (b : Bool) → eqb front count ≡ b → cond b (Taken (1 + count)) (Broken (1 + front)) ≡ Broken k → (k ≡ suc front) × (front < count)
+    spell : (b : Bool) → eqb front count ≡ b → cond b (Ok (1 + count)) (Err (1 + front)) ≡ Err k → (k ≡ suc front) × (front < count)
     spell true q e = clash cc
     spell false q e =
         let same : 1 + front ≡ k = cc in (omega arith, omega (arith, eqb-false front count q, front_short name_bytes count s))
 
-    go : (b : Bool) → counts count (length s) ≡ b → cond b (spelled count front) (Broken 0) ≡ Broken k →
+    go : (b : Bool) → counts count (length s) ≡ b → cond b (spelled count front) (Err 0) ≡ Err k →
         ((counts count (length s) ≡ false) × (k ≡ 0)) ⊎ Bad count s k
     go true q e = let w = spell (eqb front count) refl e in inr (record { right = q; is = w.0; short = w.1 })
     go false q e = inl (q, cc)
@@ -114,16 +109,16 @@ named count s (k, e) = go (counts count (length s)) refl e
     front : ℕ
     front = name_front (take count s)
 
-    go : (b : Bool) → counts count (length s) ≡ b → cond b (spelled count front) (Broken 0) ≡ Taken k →
+    go : (b : Bool) → counts count (length s) ≡ b → cond b (spelled count front) (Err 0) ≡ Ok k →
         (counts count (length s) ≡ true) × (front ≡ count)
     go true q e = (q, spell (eqb front count) refl e)
       where
-        spell : (b : Bool) → eqb front count ≡ b → cond b (Taken (1 + count)) (Broken (1 + front)) ≡ Taken k → front ≡ count
+        spell : (b : Bool) → eqb front count ≡ b → cond b (Ok (1 + count)) (Err (1 + front)) ≡ Ok k → front ≡ count
         spell true q e = eqb-true front count q
         spell false q e = clash cc
     go false q e = clash cc
 
-pub offends : (s : List ℕ) (k : ℕ) → name_of s ≡ Broken k → (t : List ℕ) → Agree (suc k) s t → Named t → ⊥
+pub offends : (s : List ℕ) (k : ℕ) → name_of s ≡ Err k → (t : List ℕ) → Agree (suc k) s t → Named t → ⊥
 unfolding name_by
 offends [] k e [] agree right = let e = right.1 in clash cc
 offends [] k e (c ∷ t) agree right = omega (arith, agree.0)
@@ -143,7 +138,7 @@ offends (count ∷ s) k e (c ∷ t) agree right =
         let same = front_agrees count s t (leb-true count (length s) within) bad.short (rw bad.is at rest) in
         omega (arith, same, right.1, bad.short)
 
-pub mends : (s : List ℕ) (k : ℕ) → name_of s ≡ Broken (suc k) → Agree (suc k) s (lettered (suc k) s) × Named (lettered (suc k) s)
+pub mends : (s : List ℕ) (k : ℕ) → name_of s ≡ Err (suc k) → Agree (suc k) s (lettered (suc k) s) × Named (lettered (suc k) s)
 unfolding name_by spelled
 mends [] k e = clash cc
 mends (count ∷ s) k e = by_count (broken count s (suc k) e)

@@ -1,5 +1,5 @@
 -- The claims of this crate, proved.
-use mathlib.Core.Path.{refl}
+use Rattle.std.proofs.Common.{refl}
 use Rattle.cdf_unit_data.specs.Standing.{name_row}
 use Rattle.cdf_unit_data.specs.Claims.{Claims}
 use Rattle.cdf_unit_data.proofs.Pointing.{offends, mends}

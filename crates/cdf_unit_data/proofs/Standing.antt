@@ -1,13 +1,8 @@
 -- What the row says of each byte.
-use Prim.Native.Nat.{ℕ, zero, suc, ◌+◌, ◌<◌}
-use mathlib.Core.Path.{◌≡◌, refl, ◌∙◌}
-use mathlib.Core.Bool.{Bool, true, false, cond, not, ◌&&◌, ◌||◌}
-use mathlib.Core.List.{List}
-use native.Mathlib.Omega.{arith}
-use native.Mathlib.Nat.{suc-add, add-suc, add-zero, zero-add}
-use borrow.Author.Tests.{ltb-true, ltb-false, lt-leb, ne_eqb}
-use lib.Dec.{eqb, leb, ltb}
-use lib.ListN.{get_or, get_or-eq_default}
+use Rattle.std.proofs.Common.{ℕ, zero, suc, ◌+◌, ◌<◌, ◌≡◌, refl, ◌∙◌, Bool, true, false, cond, not, ◌&&◌, ◌||◌, List, arith, suc-add, add-suc}
+use Rattle.std.proofs.Common.{add-zero, zero-add, ltb-true, ltb-false, ne_eqb, eqb, leb, ltb, get_or}
+use Rattle.std.proofs.lemmas.Bool.{lt-leb}
+use lib.ListN.{get_or-eq_default}
 use Rattle.cdf_unit_data.specs.Data.{letter, name_byte, name_bytes}
 use Rattle.cdf_unit_data.specs.Standing.{standing, standings, name_row, row_bytes}
 

@@ -1,30 +1,19 @@
 -- A fault that the judge tells has one of the numbers 3 to 9, and lies within the bytes judged. 9 is told of a nested unit alone, from
 -- the end of its prefix to its end.
-use Prim.Native.Nat.{ℕ, ◌≤◌, ◌+◌, ◌-◌}
-use mathlib.Core.Path.{◌≡◌, refl, subst}
-use mathlib.Core.Bool.{Bool, false, not}
-use mathlib.Core.List.{List}
-use native.Mathlib.Omega.{arith}
-use borrow.Author.Tests.{eqb-false}
-use lib.Dec.{ltb, eqb}
-use lib.ListN.{length, take, drop, length-take, length-drop}
+use Rattle.std.proofs.Common.{ℕ, ◌≤◌, ◌+◌, ◌-◌, ◌≡◌, refl, subst, Bool, false, not, List, arith, ltb, eqb, length, take, drop, length-take}
+use Rattle.std.proofs.Common.{length-drop}
+use Rattle.std.proofs.lemmas.Bool.{eqb-false}
 use Rattle.cdf_unit_table.specs.Ids.{known}
 use Rattle.cdf_unit_table.specs.States.{admits}
 use Rattle.cdf_unit_data.specs.Data.{NameBytes, name_bytes}
 use Rattle.cdf_unit_prefix.specs.Layout.{Layout, prefix_of, marked, length_at, id_at, action_at, length_fits}
-use Rattle.cdf_unit_prefix.specs.Rules.{head_of}
-use Rattle.cdf_unit_prefix.specs.declared.Header.{Header}
-use Rattle.cdf_unit_prefix.specs.declared.Header.TheVariants.{Stop, Prefix}
-use Rattle.cdf_unit_judge.specs.Judge.{body_by, found_by, judge_head, judge_by, judge_in, judge_of}
-use Rattle.cdf_unit_judge.specs.declared.Body.{Body}
-use Rattle.cdf_unit_judge.specs.declared.Body.TheVariants.{Action, Data, Whole}
-use Rattle.cdf_unit_judge.specs.declared.Judged.{Judged}
-use Rattle.cdf_unit_judge.specs.declared.Judged.TheVariants.{Fault, Found}
+use Rattle.cdf_unit_prefix.specs.Rules.{head_of, Head, Stop, Prefix}
+use Rattle.cdf_unit_judge.specs.Judge.{body_by, found_by, judge_head, judge_by, judge_in, judge_of, Body, Action, Data, Whole, Judged, Fault, Found}
 use Rattle.cdf_unit_table.proofs.Bools.{of_cond}
 use Rattle.cdf_unit_judge.proofs.Placed.{headed, fault_fits}
 use Rattle.cdf_unit_judge.proofs.Stages.{root_whole}
 
-abbrev pub OfHeader : Header → Type 0
+abbrev pub OfHeader : Head → Type 0
 OfHeader (Stop n) = (3 ≤ n) × (n ≤ 6)
 OfHeader (Prefix id action len) = record {}
 
@@ -70,7 +59,7 @@ module _ (l : Layout) (root : Bool) (s : List ℕ) where
   of_body id action len state (Data k) told = told k refl
   of_body id action len state (Whole k) told = record {}
 
-  by_head : (w : NameBytes) (state : ℕ) (h : Header) → head_of l root s ≡ h → OfHeader h → OfJudged l root s (judge_head w l (admits root state) s h)
+  by_head : (w : NameBytes) (state : ℕ) (h : Head) → head_of l root s ≡ h → OfHeader h → OfJudged l root s (judge_head w l (admits root state) s h)
   unfolding judge_head
   by_head w state (Stop n) q p = at_start n p.0 (omega arith)
   by_head w state (Prefix id action len) q p =

@@ -1,23 +1,11 @@
 -- What a judge finds lies in the bytes judged, by any admission.
-use Prim.Native.Nat.{ℕ, ◌-◌, ◌≤◌}
-use mathlib.Core.Path.{◌≡◌, refl}
-use mathlib.Core.Bool.{Bool}
-use mathlib.Core.List.{List}
-use native.Mathlib.Omega.{arith}
-use lib.Dec.{eqb}
-use lib.ListN.{length, take, drop, length-take, length-drop}
+use Rattle.std.proofs.Common.{ℕ, ◌-◌, ◌≤◌, ◌≡◌, refl, Bool, List, arith, eqb, length, take, drop, length-take, length-drop}
 use Rattle.cdf_unit_table.specs.States.{admits}
 use Rattle.cdf_unit_table.proofs.Bools.{of_cond}
 use Rattle.cdf_unit_prefix.specs.Layout.{Layout, prefix_of}
-use Rattle.cdf_unit_prefix.specs.Rules.{head_of}
-use Rattle.cdf_unit_prefix.specs.declared.Header.{Header}
-use Rattle.cdf_unit_prefix.specs.declared.Header.TheVariants.{Stop, Prefix}
+use Rattle.cdf_unit_prefix.specs.Rules.{head_of, Head, Stop, Prefix}
 use Rattle.cdf_unit_data.specs.Data.{NameBytes}
-use Rattle.cdf_unit_judge.specs.Judge.{body_by, found_by, judge_head, judge_by, judge_in}
-use Rattle.cdf_unit_judge.specs.declared.Body.{Body}
-use Rattle.cdf_unit_judge.specs.declared.Body.TheVariants.{Action, Data, Whole}
-use Rattle.cdf_unit_judge.specs.declared.Judged.{Judged}
-use Rattle.cdf_unit_judge.specs.declared.Judged.TheVariants.{Fault, Found}
+use Rattle.cdf_unit_judge.specs.Judge.{body_by, found_by, judge_head, judge_by, judge_in, Body, Action, Data, Whole, Judged, Fault, Found}
 use Rattle.cdf_unit_judge.proofs.Placed.{headed, body_fits, fault_fits}
 
 -- A fault's offset, and a unit's own data and end, of n bytes.
@@ -45,7 +33,7 @@ module _ (w : NameBytes) (l : Layout) (root : Bool) (admitted : ℕ → ℕ) (s 
       let long : length rest ≡ len - prefix_of l = simp (length-take, length-drop) (omega arith) in
       (omega arith, high)
 
-  of_head : (h : Header) → head_of l root s ≡ h → Lies (length s) (judge_head w l admitted s h)
+  of_head : (h : Head) → head_of l root s ≡ h → Lies (length s) (judge_head w l admitted s h)
   unfolding judge_head
   of_head (Stop n) q = omega arith
   of_head (Prefix id action len) q =

@@ -1,26 +1,15 @@
 -- A unit that the judge passes is one that keeps the rules 3 to 9, and the other way round.
-use mathlib.Core.Path.{◌≡◌, refl, sym}
-use mathlib.Core.Bool.{Bool, false, true, not}
-use mathlib.Core.List.{List}
-use Prim.Native.Nat.{ℕ, ◌≤◌, ◌<◌, ◌+◌, ◌-◌}
-use native.Mathlib.Omega.{arith}
-use borrow.Author.Tests.{not-false, ltb-false, le-ltb, eqb-true, eq-eqb, eqb-false, ne_eqb, leb-true, le-leb}
-use lib.Dec.{ltb, eqb, leb}
-use lib.ListN.{length, take, drop, length-take, length-drop}
+use Rattle.std.proofs.Common.{◌≡◌, refl, sym, Bool, false, true, not, List, ℕ, ◌≤◌, ◌<◌, ◌+◌, ◌-◌, arith, ltb-false, le-ltb, eqb-true, eq-eqb, ne_eqb}
+use Rattle.std.proofs.Common.{leb-true, le-leb, ltb, eqb, leb, length, take, drop, length-take, length-drop}
+use Rattle.std.proofs.lemmas.Bool.{not-false, eqb-false}
 use Rattle.cdf_unit_prefix.specs.Layout.{Layout, prefix_of, marked, length_at, action_at, id_at, length_fits}
 use Rattle.cdf_unit_table.specs.Ids.{known, action_allowed}
 use Rattle.cdf_unit_table.specs.States.{admits}
-use Rattle.cdf_unit_data.specs.Data.{NameBytes, name_bytes, own_data_by}
-use Rattle.cdf_unit_prefix.specs.Rules.{head_of}
-use Rattle.cdf_unit_judge.specs.Judge.{data_body, body_by, found_by, judge_head, judge_by, judge_in, judge_of}
-use Rattle.cdf_unit_data.specs.declared.Own.{Own}
-use Rattle.cdf_unit_data.specs.declared.Own.TheVariants.{Taken, Broken}
+use Rattle.cdf_unit_data.specs.Data.{NameBytes, name_bytes, own_data_by, Own}
+use Rattle.cdf_unit_prefix.specs.Rules.{head_of, Head, Stop, Prefix}
+use Rattle.cdf_unit_judge.specs.Judge.{data_body, body_by, found_by, judge_head, judge_by, judge_in, judge_of, Body, Action, Data, Whole, Fault, Found}
+use Rattle.std.specs.Prelude.{Ok, Err}
 use Rattle.cdf_unit_judge.specs.Short.{Short}
-use Rattle.cdf_unit_prefix.specs.declared.Header.{Header}
-use Rattle.cdf_unit_prefix.specs.declared.Header.TheVariants.{Stop, Prefix}
-use Rattle.cdf_unit_judge.specs.declared.Body.{Body}
-use Rattle.cdf_unit_judge.specs.declared.Body.TheVariants.{Action, Data, Whole}
-use Rattle.cdf_unit_judge.specs.declared.Judged.TheVariants.{Fault, Found}
 use Rattle.cdf_unit_table.proofs.Bools.{both, past, clash}
 use Rattle.cdf_unit_data.proofs.Taken.{taken_fits, broken_fits}
 
@@ -34,7 +23,7 @@ pub record PlacedBy (w : NameBytes) (l : Layout) (root : Bool) (state : ℕ) (s 
   pub may : admits root state id ≡ next
   pub some : next ≡ 0 → ⊥
   pub allowed : action_allowed id action ≡ true
-  pub taken : own_data_by w id (take (len - prefix_of l) (drop (prefix_of l) s)) ≡ Taken (own - prefix_of l)
+  pub taken : own_data_by w id (take (len - prefix_of l) (drop (prefix_of l) s)) ≡ Ok (own - prefix_of l)
   pub room : prefix_of l ≤ own
   pub inside : own ≤ len
   pub high : len ≤ length s
@@ -100,25 +89,25 @@ headed l root s id action len e0 =
     stop : (n : ℕ) → Stop n ≡ Prefix id action len → ⊥
     stop n e = clash cc
 
-pub offends : (w : NameBytes) (id action : ℕ) (t : List ℕ) (k : ℕ) → body_by w id action t ≡ Data k → own_data_by w id t ≡ Broken k
+pub offends : (w : NameBytes) (id action : ℕ) (t : List ℕ) (k : ℕ) → body_by w id action t ≡ Data k → own_data_by w id t ≡ Err k
 unfolding body_by data_body
 offends w id action t k e =
     own (own_data_by w id t) (past (not (action_allowed id action)) Action _ (λ e. clash cc) e).1
   where
-    own : (x : Own) → data_body x ≡ Data k → x ≡ Broken k
-    own (Taken j) e = clash cc
-    own (Broken j) e = cc
+    own : (x : Own) → data_body x ≡ Data k → x ≡ Err k
+    own (Ok j) e = clash cc
+    own (Err j) e = cc
 
 held : (w : NameBytes) (id action : ℕ) (t : List ℕ) (k : ℕ) → body_by w id action t ≡ Whole k →
-    (action_allowed id action ≡ true) × (own_data_by w id t ≡ Taken k)
+    (action_allowed id action ≡ true) × (own_data_by w id t ≡ Ok k)
 unfolding body_by data_body
 held w id action t k e =
     let passes = past (not (action_allowed id action)) Action _ (λ e. clash cc) e in
     (not-false (action_allowed id action) passes.0, own (own_data_by w id t) passes.1)
   where
-    own : (x : Own) → data_body x ≡ Whole k → x ≡ Taken k
-    own (Taken j) e = cc
-    own (Broken j) e = clash cc
+    own : (x : Own) → data_body x ≡ Whole k → x ≡ Ok k
+    own (Ok j) e = cc
+    own (Err j) e = clash cc
 
 pub body_fits : (w : NameBytes) (id action : ℕ) (t : List ℕ) (k : ℕ) → body_by w id action t ≡ Whole k → k ≤ length t
 body_fits w id action t k e = taken_fits w id t k (held w id action t k e).1
@@ -159,7 +148,7 @@ module _ (w : NameBytes) (l : Layout) (root : Bool) (state : ℕ) (s : List ℕ)
         short = h.fit.short;
       }
 
-  by_head : (h : Header) {id action own len next : ℕ} → head_of l root s ≡ h →
+  by_head : (h : Head) {id action own len next : ℕ} → head_of l root s ≡ h →
       judge_head w l (admits root state) s h ≡ Found id action own len next → PlacedBy w l root state s id action own len next
   unfolding judge_head found_by
   by_head (Stop n) q e = clash cc

@@ -1,31 +1,21 @@
 -- The judge's answer by the stages of the code: the prefix, the admission, the body; and for a root, whose body is its action alone.
-use Prim.Native.Nat.{ℕ, ◌+◌, ◌-◌, ◌≤◌}
-use native.Mathlib.Omega.{arith}
-use mathlib.Core.Path.{◌≡◌, refl, sym, ap, subst, ◌∙◌}
-use mathlib.Core.Bool.{Bool, true, false, cond, or-false}
-use mathlib.Core.List.{List, [], ◌∷◌}
-use borrow.Author.Tests.{eq-eqb, ne_eqb}
-use lib.Dec.{T, eqb}
-use lib.ListN.{length, take, drop}
+use Rattle.std.proofs.Common.{ℕ, ◌+◌, ◌-◌, ◌≤◌, arith, ◌≡◌, refl, sym, ap, subst, ◌∙◌, Bool, true, false, cond, List, [], ◌∷◌, eq-eqb, ne_eqb, T, eqb}
+use Rattle.std.proofs.Common.{length, take, drop}
+use mathlib.Core.Bool.{or-false}
 use Rattle.cdf_unit_prefix.specs.Layout.{Layout, prefix_of}
-use Rattle.cdf_unit_table.specs.States.{admits, root_kind, nothing}
+use Rattle.cdf_unit_table.specs.States.{admit, admits, root_kind, nothing}
 use Rattle.cdf_unit_table.specs.Ids.{member, stream, er_group, file_group, action_allowed}
-use Rattle.cdf_unit_data.specs.Data.{NameBytes, name_bytes, own_data_by}
-use Rattle.cdf_unit_data.specs.declared.Own.TheVariants.{Taken, Broken}
-use Rattle.cdf_unit_prefix.specs.Rules.{head_of}
-use Rattle.cdf_unit_judge.specs.Judge.{body_of, body_by, data_body, found_by, judge_head, judge_by, judge_in, judge_of}
-use Rattle.cdf_unit_prefix.specs.declared.Header.{Header}
-use Rattle.cdf_unit_prefix.specs.declared.Header.TheVariants.{Stop, Prefix}
-use Rattle.cdf_unit_judge.specs.declared.Body.{Body}
-use Rattle.cdf_unit_judge.specs.declared.Body.TheVariants.{Action, Data, Whole}
-use Rattle.cdf_unit_judge.specs.declared.Judged.TheVariants.{Fault, Found}
+use Rattle.cdf_unit_data.specs.Data.{Own, NameBytes, name_bytes, own_data_by}
+use Rattle.std.specs.Prelude.{Ok, Err}
+use Rattle.cdf_unit_prefix.specs.Rules.{head_of, Head, Stop, Prefix}
+use Rattle.cdf_unit_judge.specs.Judge.{body_of, body_by, data_body, found_by, judge_head, judge_by, judge_in, judge_of, Body, Action, Data, Whole, Fault, Found}
 use Rattle.cdf_unit_judge.proofs.Placed.{headed, offends}
 use Rattle.cdf_unit_table.proofs.Match.{each, among}
 use Rattle.cdf_unit_table.proofs.Rows.{admits_root, root_kind_lem, root_opens}
 use Rattle.cdf_unit_table.proofs.Bools.{clash}
 
 -- h is what the prefix is found to say.
-module _ (l : Layout) (root : Bool) (s : List ℕ) (h : Header) (head : h ≡ head_of l root s) where
+module _ (l : Layout) (root : Bool) (s : List ℕ) (h : Head) (head : h ≡ head_of l root s) where
   -- a prefix that passes: the unit's bytes begin with it and are there
   pub bounds : {id action len : ℕ} → h ≡ Prefix id action len → (prefix_of l ≤ len) × (len ≤ length s)
   bounds e = let w = headed l root s _ _ _ (sym head ∙ e) in (w.low, w.fit.high)
@@ -56,16 +46,20 @@ pub in_is : (w : NameBytes) (l : Layout) (root : Bool) (state : ℕ) (s : List �
 unfolding judge_in
 in_is w l root state s = refl
 
+pub nested_is : (w : NameBytes) (l : Layout) (state : ℕ) (s : List ℕ) → judge_by w l false (admit state) s ≡ judge_in w l false state s
+unfolding judge_in
+nested_is w l state s = refl
+
 -- A root has the action none and no own data.
 record Root (id : ℕ) : Type 0 where
   acts : (action : ℕ) → action_allowed id action ≡ eqb action 0
-  own : (w : NameBytes) (t : List ℕ) → own_data_by w id t ≡ Taken 0
+  own : (w : NameBytes) (t : List ℕ) → own_data_by w id t ≡ Ok 0
 
 root_is : (id : ℕ) → root_kind id ≡ true → Root id
 unfolding root_kind member action_allowed own_data_by
 root_is id e =
     let kinds = stream ∷ er_group ∷ file_group ∷ [] in
-    let root : (k : ℕ) → ((a : ℕ) → action_allowed k a ≡ eqb a 0) → ((w : NameBytes) (t : List ℕ) → own_data_by w k t ≡ Taken 0) → Root k =
+    let root : (k : ℕ) → ((a : ℕ) → action_allowed k a ≡ eqb a 0) → ((w : NameBytes) (t : List ℕ) → own_data_by w k t ≡ Ok 0) → Root k =
     λ k a o. record { acts = a; own = o } in
     each Root kinds (
       root stream (λ a. or-false (eqb a 0)) (λ w t. refl),
@@ -77,10 +71,10 @@ pub root_whole : (w : NameBytes) (root : Bool) (state id action : ℕ) (t : List
     root ≡ false
 root_whole w false state id action t some e = refl
 root_whole w true state id action t {k} some e =
-    let z : Taken 0 ≡ Broken k = sym ((root_is id (root_kind_lem state id some)).own w t) ∙ offends w id action t k e in
+    let z : ◌≡◌ {A = Own} (Ok 0) (Err k) = sym ((root_is id (root_kind_lem state id some)).own w t) ∙ offends w id action t k e in
     clash cc
 
-module _ (l : Layout) (s : List ℕ) (h : Header) (head : h ≡ head_of l true s) {id action len : ℕ} (e : h ≡ Prefix id action len) where
+module _ (l : Layout) (s : List ℕ) (h : Head) (head : h ≡ head_of l true s) {id action len : ℕ} (e : h ≡ Prefix id action len) where
   pub root_other : root_kind id ≡ false → Fault 7 0 ≡ judge_of l true 0 s
   unfolding admits
   root_other k =

@@ -1,23 +1,28 @@
 -- The rules 3 to 9 for the unit at the front of s, which is all that the enclosing unit has left (01, "The numbers given
 -- back"). Positions are added by whoever asks, so a unit is judged the same wherever it stands.
-use Rattle.std.specs.Prelude.{ℕ, ◌+◌, ◌-◌, Bool, cond, not, List, take, drop, eqb}
+use Rattle.std.specs.Prelude.{ℕ, ◌+◌, ◌-◌, Bool, cond, not, List, take, drop, eqb, Ok, Err}
 use Rattle.cdf_unit_prefix.specs.Layout.{Layout, prefix_of}
-use Rattle.cdf_unit_prefix.specs.Rules.{head_of}
+use Rattle.cdf_unit_prefix.specs.Rules.{Head, Stop, Prefix, head_of}
 use Rattle.cdf_unit_table.specs.Ids.{action_allowed}
 use Rattle.cdf_unit_table.specs.States.{admits}
-use Rattle.cdf_unit_data.specs.Data.{NameBytes, name_bytes, own_data_by}
-use Rattle.cdf_unit_data.specs.declared.Own.{Own}
-use Rattle.cdf_unit_data.specs.declared.Own.TheVariants.{Taken, Broken}
-use Rattle.cdf_unit_prefix.specs.declared.Header.{Header}
-use Rattle.cdf_unit_prefix.specs.declared.Header.TheVariants.{Stop, Prefix}
-use Rattle.cdf_unit_judge.specs.declared.Body.{Body}
-use Rattle.cdf_unit_judge.specs.declared.Body.TheVariants.{Action, Data, Whole}
-use Rattle.cdf_unit_judge.specs.declared.Judged.{Judged}
-use Rattle.cdf_unit_judge.specs.declared.Judged.TheVariants.{Fault, Found}
+use Rattle.cdf_unit_data.specs.Data.{Own, NameBytes, name_bytes, own_data_by}
+
+-- Rules 8 and 9: the action is not allowed; this byte of the own data is the first that breaks its rule; or the name or the fixed numbers
+-- take so many bytes.
+pub data Body : Type 0 where
+  Action : Body
+  Data : ℕ → Body
+  Whole : ℕ → Body
+
+-- Rules 3 to 9: a fault's number, and its offset from the unit's start; or the unit: id, action, where its own data end, length, and the
+-- state of the enclosing unit once it has had this one, or for a root its own.
+pub data Judged : Type 0 where
+  Fault : ℕ → ℕ → Judged
+  Found : ℕ → ℕ → ℕ → ℕ → ℕ → Judged
 
 unfoldable pub data_body : Own → Body
-data_body (Taken k) = Whole k
-data_body (Broken k) = Data k
+data_body (Ok k) = Whole k
+data_body (Err k) = Data k
 
 -- 8: the action is not allowed for this id. 9: the own data breaks its rule, by the bytes that may stand in a name.
 unfoldable pub body_by : NameBytes → ℕ → ℕ → List ℕ → Body
@@ -31,7 +36,7 @@ found_by l id action len next (Data k) = Fault 9 (prefix_of l + k)
 found_by l id action len next (Whole k) = Found id action (prefix_of l + k) len next
 
 -- 7: not admitted here, between the two. `admitted` tells the state of the enclosing unit after a child of an id, or 0.
-unfoldable pub judge_head : NameBytes → Layout → (ℕ → ℕ) → List ℕ → Header → Judged
+unfoldable pub judge_head : NameBytes → Layout → (ℕ → ℕ) → List ℕ → Head → Judged
 unfolding found_by body_by
 judge_head w l admitted s (Stop n) = Fault n 0
 judge_head w l admitted s (Prefix id action len) =

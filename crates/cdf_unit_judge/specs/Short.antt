@@ -1,7 +1,6 @@
 -- What is known of a body where a unit is made of it. No contract that is open to callers cites this file.
 use Rattle.std.specs.Prelude.{◌<◌}
-use Rattle.cdf_unit_judge.specs.declared.Body.{Body}
-use Rattle.cdf_unit_judge.specs.declared.Body.TheVariants.{Action, Data, Whole}
+use Rattle.cdf_unit_judge.specs.Judge.{Body, Action, Data, Whole}
 
 -- What it takes, and the byte that offends, lie in bytes that a slice can have.
 abbrev pub Short : Body → Type 0

@@ -1,12 +1,8 @@
 -- Closing the units that end at a position: the stack answers as the listed units do.
-use mathlib.Core.Path.{◌≡◌}
-use mathlib.Core.Bool.{Bool, false, true, cond, ◌&&◌}
-use mathlib.Core.List.{List, [], ◌∷◌, map}
-use Prim.Native.Nat.{ℕ, suc, ◌<◌}
-use native.Mathlib.Omega.{arith}
+use Rattle.std.proofs.Common.{◌≡◌, Bool, false, true, cond, ◌&&◌, List, [], ◌∷◌, map, ℕ, suc, ◌<◌, arith, lt-ltb, le-ltb, eq-eqb, ne_eqb, le-leb, leb}
+use Rattle.std.proofs.Common.{ltb, eqb}
+use Rattle.std.proofs.lemmas.Bool.{lt-leb}
 use native.Mathlib.Decide.{dec_lt}
-use borrow.Author.Tests.{lt-ltb, le-ltb, eq-eqb, ne_eqb, le-leb, lt-leb}
-use lib.Dec.{leb, ltb, eqb}
 use Rattle.cdf_unit_table.specs.States.{opens, complete}
 use Rattle.cdf_unit_list.specs.Units.{parents_that, open_at, closing_at, state_of, Next, whole, broken, closed}
 use Rattle.cdf_unit_list.specs.Stack.{Closing, incomplete, left, close}

@@ -1,16 +1,10 @@
 -- What holds of every fault that the judge and the closing of units tell holds of the fault that ends a unit list. Of the units
 -- listed before it, the last one stands first.
-use Prim.Native.Nat.{ℕ, zero, suc, ◌+◌, ◌-◌}
-use mathlib.Core.Path.{◌≡◌, refl, subst}
-use mathlib.Core.Bool.{false}
-use mathlib.Core.List.{List, [], ◌∷◌, reverse, reverse-reverse}
-use native.Mathlib.Omega.{arith}
-use lib.ListN.{length, take, drop}
+use Rattle.std.proofs.Common.{ℕ, zero, suc, ◌+◌, ◌-◌, ◌≡◌, refl, subst, false, List, [], ◌∷◌, reverse, arith, length, take, drop}
+use Rattle.std.proofs.lemmas.List.{reverse-reverse}
 use Rattle.cdf_unit_table.specs.States.{complete}
 use Rattle.cdf_unit_prefix.specs.Layout.{Layout}
-use Rattle.cdf_unit_judge.specs.Judge.{judge_of}
-use Rattle.cdf_unit_judge.specs.declared.Judged.{Judged}
-use Rattle.cdf_unit_judge.specs.declared.Judged.TheVariants.{Fault, Found}
+use Rattle.cdf_unit_judge.specs.Judge.{judge_of, Judged, Fault, Found}
 use Rattle.cdf_unit_list.specs.Units.{Next, whole, broken, listed, after, state_of, closed, within, or_else, unit_at, next_at, next}
 use Rattle.cdf_unit_list.specs.Units.{open_at, closing_at, Listing, End, unfinished, ended, fault, go_on, list_from, list_by}
 use Rattle.cdf_unit_list.specs.declared.Unit.{Unit}

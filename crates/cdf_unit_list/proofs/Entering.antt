@@ -1,11 +1,6 @@
 -- The stack and the listed units go on together over one more unit.
-use mathlib.Core.Path.{◌≡◌, refl}
-use mathlib.Core.Bool.{Bool, false, true, cond, and-true}
-use mathlib.Core.List.{List, [], ◌∷◌, map}
-use Prim.Native.Nat.{ℕ, suc, ◌≤◌, ◌<◌, ◌+◌}
-use native.Mathlib.Omega.{arith}
-use borrow.Author.Tests.{le-leb}
-use lib.ListN.{length}
+use Rattle.std.proofs.Common.{◌≡◌, refl, Bool, false, true, cond, List, [], ◌∷◌, map, ℕ, suc, ◌≤◌, ◌<◌, ◌+◌, arith, le-leb, length}
+use mathlib.Core.Bool.{and-true}
 use Rattle.cdf_unit_table.specs.States.{opens, nothing}
 use Rattle.cdf_unit_list.specs.Units.{after, parents_that, open_at}
 use Rattle.cdf_unit_list.specs.Stack.{opened}

@@ -1,21 +1,14 @@
 -- Each listed unit takes a prefix, so that there are few of them.
-use mathlib.Core.Path.{◌≡◌, refl}
-use mathlib.Core.Bool.{Bool, false}
-use mathlib.Core.List.{List, [], ◌∷◌}
-use Prim.Native.Nat.{ℕ, zero, suc, ◌≤◌, ◌+◌, ◌-◌, ◌*◌}
-use native.Mathlib.Omega.{arith}
-use native.Mathlib.Nat.{suc-mul}
-use lib.ListN.{length, take, drop, length-take, length-drop, length-reverse}
+use Rattle.std.proofs.Common.{◌≡◌, refl, Bool, false, List, [], ◌∷◌, ℕ, zero, suc, ◌≤◌, ◌+◌, ◌-◌, ◌*◌, arith, suc-mul, length, take, drop}
+use Rattle.std.proofs.Common.{length-take, length-drop}
+use Rattle.std.proofs.lemmas.List.{length-reverse}
 use Rattle.cdf_unit_prefix.specs.Layout.{Layout, prefix_of}
-use Rattle.cdf_unit_judge.specs.Judge.{judge_of}
+use Rattle.cdf_unit_judge.specs.Judge.{judge_of, Judged, Fault, Found}
 use Rattle.cdf_unit_list.specs.Units.{list_by}
-use Rattle.cdf_unit_list.specs.Stack.{Closing, incomplete, left, close, Step, done, refused, found, entered, with_state}
-use Rattle.cdf_unit_list.specs.Stack.{step_in, step_in_by, step, step_by}
+use Rattle.cdf_unit_list.specs.Stack.{Closing, incomplete, left, close, Step, done, refused, found, entered, with_state, step_in, step_in_by, step, step_by}
 use Rattle.cdf_unit_list.specs.Steps.{steps_from, steps}
 use Rattle.cdf_unit_list.specs.declared.Unit.{Unit}
 use Rattle.cdf_unit_list.specs.declared.Open.{Open}
-use Rattle.cdf_unit_judge.specs.declared.Judged.{Judged}
-use Rattle.cdf_unit_judge.specs.declared.Judged.TheVariants.{Fault, Found}
 use Rattle.cdf_unit_judge.proofs.Placed.{placed}
 use Rattle.cdf_unit_list.proofs.Entering.{after_between, unit_from}
 use Rattle.cdf_unit_list.proofs.Agreement.{follows}

@@ -1,17 +1,11 @@
 -- No bytes run out of fuel.
-use mathlib.Core.Path.{◌≡◌, ap}
-use mathlib.Core.Bool.{Bool}
-use mathlib.Core.List.{List, [], ◌∷◌}
-use Prim.Native.Nat.{ℕ, zero, suc, ◌+◌, ◌*◌}
-use native.Mathlib.Omega.{arith}
-use native.Mathlib.Nat.{le-mul_of_pos_right}
-use lib.ListN.{length, length-reverse}
+use Rattle.std.proofs.Common.{◌≡◌, ap, Bool, List, [], ◌∷◌, ℕ, zero, suc, ◌+◌, ◌*◌, arith, le-mul_of_pos_right, length}
+use Rattle.std.proofs.lemmas.List.{length-reverse}
 use Rattle.cdf_unit_table.proofs.Bools.{clash}
 use Rattle.cdf_unit_prefix.specs.Layout.{Layout, prefix_of}
-use Rattle.cdf_unit_judge.specs.Judge.{judge_of}
+use Rattle.cdf_unit_judge.specs.Judge.{judge_of, Judged}
 use Rattle.cdf_unit_list.specs.Units.{unfinished, go_on, list_from, list_by, Next, whole, broken, listed, next}
 use Rattle.cdf_unit_list.specs.declared.Unit.{Unit}
-use Rattle.cdf_unit_judge.specs.declared.Judged.{Judged}
 use Rattle.cdf_unit_list.proofs.Few.{few}
 
 -- Out of fuel, as many units are listed as there was fuel.

@@ -1,11 +1,8 @@
 -- Depth and rank of any unit list: the units and their depths are the list's own, and a rank times the prefix is at most the start.
-use mathlib.Core.Path.{◌≡◌, refl}
-use mathlib.Core.Bool.{Bool, true, false, cond}
-use mathlib.Core.List.{List, [], ◌∷◌, map, reverse, reverse_aux, reverse-reverse}
-use Prim.Native.Nat.{ℕ, zero, suc, ◌≤◌, ◌*◌}
-use native.Mathlib.Omega.{arith}
-use native.Mathlib.Nat.{suc-mul, mul-le-mul_right}
-use lib.ListN.{length, get_or}
+use Rattle.std.proofs.Common.{◌≡◌, refl, Bool, true, false, cond, List, [], ◌∷◌, map, reverse, ℕ, zero, suc, ◌≤◌, ◌*◌, arith, suc-mul}
+use Rattle.std.proofs.Common.{mul-le-mul_right, length, get_or}
+use Rattle.std.proofs.lemmas.List.{reverse-reverse}
+use mathlib.Core.List.{reverse_aux}
 use Rattle.cdf_unit_prefix.specs.Layout.{Layout, prefix_of}
 use Rattle.cdf_unit_judge.specs.Judge.{judge_of}
 use Rattle.cdf_unit_list.specs.Units.{open_at, inside, first_starts, list_by, depths}

@@ -1,11 +1,7 @@
 -- The listed units that reach a position lie one in the other: what that tells of those that end there or later.
-use mathlib.Core.Path.{◌≡◌, refl, ap}
-use mathlib.Core.Bool.{Bool, false, true, cond, ◌&&◌}
-use mathlib.Core.List.{List, [], ◌∷◌}
-use Prim.Native.Nat.{ℕ, suc, ◌≤◌, ◌<◌}
-use native.Mathlib.Omega.{arith}
-use borrow.Author.Tests.{leb-false, lt-leb, le-leb, ne_eqb}
-use lib.Dec.{leb, eqb}
+use Rattle.std.proofs.Common.{◌≡◌, refl, ap, Bool, false, true, cond, ◌&&◌, List, [], ◌∷◌, ℕ, suc, ◌≤◌, ◌<◌, arith, leb-false, le-leb, ne_eqb, leb}
+use Rattle.std.proofs.Common.{eqb}
+use Rattle.std.proofs.lemmas.Bool.{lt-leb}
 use Rattle.cdf_unit_table.specs.States.{opens}
 use Rattle.cdf_unit_list.specs.Units.{parents_that, closing_at}
 use Rattle.cdf_unit_list.specs.declared.Unit.{Unit}

@@ -1,14 +1,9 @@
 -- A fault of the unit list has one of the numbers 3 to 10, and 9 names a byte of the refused unit.
-use Prim.Native.Nat.{ℕ, zero, suc, ◌+◌, ◌≤◌}
-use mathlib.Core.Path.{◌≡◌, refl, sym}
-use mathlib.Core.Bool.{Bool, true, false, false≢true}
-use mathlib.Core.List.{List, [], ◌∷◌, reverse}
-use native.Mathlib.Omega.{arith}
-use lib.ListN.{length, take, drop, length-take}
-use lib.Seq.{get_or-take}
+use Rattle.std.proofs.Common.{ℕ, zero, suc, ◌+◌, ◌≤◌, ◌≡◌, refl, sym, Bool, true, false, List, [], ◌∷◌, reverse, arith, length, take, drop}
+use Rattle.std.proofs.Common.{length-take, get_or-take}
+use Rattle.std.proofs.lemmas.Bool.{false≢true}
 use Rattle.cdf_unit_prefix.specs.Layout.{Layout, prefix_of, number_at, length_at}
-use Rattle.cdf_unit_judge.specs.Judge.{judge_of}
-use Rattle.cdf_unit_judge.specs.declared.Judged.TheVariants.{Fault}
+use Rattle.cdf_unit_judge.specs.Judge.{judge_of, Fault}
 use Rattle.cdf_unit_judge.proofs.Faults.{told}
 use Rattle.cdf_unit_list.specs.Units.{after, fault, list_by, listing}
 use Rattle.cdf_unit_list.specs.Claims.{Pointed}

@@ -1,7 +1,5 @@
 -- The claims of this crate, proved.
-use mathlib.Core.Bool.{true, false}
-use mathlib.Core.Path.{◌≡◌, refl}
-use mathlib.Core.List.{[], ◌∷◌}
+use Rattle.std.proofs.Common.{true, false, ◌≡◌, refl, [], ◌∷◌}
 use Rattle.cdf_unit_prefix.specs.Layout.{layout_of}
 use Rattle.cdf_unit_prefix.specs.declared.Edition.TheVariants.{First}
 use Rattle.cdf_unit_list.specs.Units.{listing, listing_in}

@@ -1,11 +1,5 @@
 -- The states of the listed units once one more is listed.
-use mathlib.Core.Path.{◌≡◌, refl}
-use mathlib.Core.Bool.{Bool, false, true, cond, ◌&&◌}
-use mathlib.Core.List.{List, [], ◌∷◌, map}
-use Prim.Native.Nat.{ℕ, ◌≤◌, ◌<◌}
-use native.Mathlib.Omega.{arith}
-use borrow.Author.Tests.{eq-eqb, ne_eqb}
-use lib.Dec.{ltb}
+use Rattle.std.proofs.Common.{◌≡◌, refl, Bool, false, true, cond, ◌&&◌, List, [], ◌∷◌, map, ℕ, ◌≤◌, ◌<◌, arith, eq-eqb, ne_eqb, ltb}
 use Rattle.cdf_unit_table.specs.States.{opens, nothing, admit}
 use Rattle.cdf_unit_list.specs.Units.{parents_that, open_at, first_starts, inside, state_from, state_of}
 use Rattle.cdf_unit_list.specs.declared.Unit.{Unit}

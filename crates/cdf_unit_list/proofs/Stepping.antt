@@ -1,22 +1,16 @@
 -- One step: the innermost open unit closes, or a unit is judged in it and entered. To unfold a step would unfold the judge
 -- and the rows too, so these equations stand for that.
-use mathlib.Core.Path.{◌≡◌, refl}
-use mathlib.Core.Bool.{Bool, true, false, cond}
-use mathlib.Core.List.{List, [], ◌∷◌, reverse}
-use Prim.Native.Nat.{ℕ, zero, suc, ◌+◌, ◌-◌, ◌<◌}
-use native.Mathlib.Omega.{arith}
-use borrow.Author.Tests.{eq-eqb, ne_eqb}
-use lib.ListN.{length, take, drop}
+use Rattle.std.proofs.Common.{◌≡◌, refl, Bool, true, false, cond, List, [], ◌∷◌, reverse, ℕ, zero, suc, ◌+◌, ◌-◌, ◌<◌, arith, eq-eqb, ne_eqb, length}
+use Rattle.std.proofs.Common.{take, drop}
 use Rattle.cdf_unit_prefix.specs.Layout.{Layout}
 use Rattle.cdf_unit_table.specs.States.{opens, nothing, complete}
 use Rattle.cdf_unit_table.proofs.Bools.{clash}
-use Rattle.cdf_unit_judge.specs.Judge.{judge_of}
+use Rattle.cdf_unit_judge.specs.Judge.{judge_of, Fault, Found}
 use Rattle.cdf_unit_list.specs.Units.{after, ended, listing}
 use Rattle.cdf_unit_list.specs.Stack.{incomplete, close, Step, refused, found, opened, entered, with_state, step_in, step, step_by, step_in_by}
 use Rattle.cdf_unit_list.specs.Steps.{steps_from, steps}
 use Rattle.cdf_unit_list.specs.declared.Unit.{Unit}
 use Rattle.cdf_unit_list.specs.declared.Open.{Open}
-use Rattle.cdf_unit_judge.specs.declared.Judged.TheVariants.{Fault, Found}
 use Rattle.cdf_unit_list.proofs.Entering.{unit_from}
 use Rattle.cdf_unit_list.proofs.Agreement.{follows}
 

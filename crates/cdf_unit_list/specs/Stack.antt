@@ -5,12 +5,10 @@ use Rattle.std.specs.Prelude.{ℕ, ◌+◌, ◌-◌, false, cond, List, [], ◌�
 use Rattle.cdf_unit_prefix.specs.Layout.{Layout}
 use Rattle.cdf_unit_table.specs.States.{opens, nothing, complete}
 use Rattle.cdf_unit_data.specs.Data.{NameBytes, name_bytes}
-use Rattle.cdf_unit_judge.specs.Judge.{judge_in}
+use Rattle.cdf_unit_judge.specs.Judge.{judge_in, Judged, Fault, Found}
 use Rattle.cdf_unit_list.specs.Units.{after}
 use Rattle.cdf_unit_list.specs.declared.Unit.{Unit}
 use Rattle.cdf_unit_list.specs.declared.Open.{Open}
-use Rattle.cdf_unit_judge.specs.declared.Judged.{Judged}
-use Rattle.cdf_unit_judge.specs.declared.Judged.TheVariants.{Fault, Found}
 
 -- What closing the units that end at a position leaves: the start of the first incomplete one, or those still open.
 pub data Closing : Type 0 where

@@ -3,7 +3,7 @@ use Rattle.std.specs.Prelude.{ℕ, zero, suc, List, [], ◌∷◌, reverse, leng
 use Rattle.cdf_unit_prefix.specs.Layout.{Layout}
 use Rattle.cdf_unit_list.specs.Units.{Listing, unfinished, ended, fault}
 use Rattle.cdf_unit_list.specs.declared.Unit.{Unit}
-use Rattle.cdf_unit_judge.specs.declared.Judged.{Judged}
+use Rattle.cdf_unit_judge.specs.Judge.{Judged}
 use Rattle.cdf_unit_list.specs.Stack.{Step, entered, step, done, refused, found, step_by}
 
 -- From a step and the units so far, the last one first.

@@ -3,10 +3,8 @@
 use Rattle.std.specs.Prelude.{ℕ, zero, suc, ◌+◌, ◌-◌, Bool, true, false, cond, ◌&&◌, List, [], ◌∷◌, reverse, length, take, drop, ltb, eqb}
 use Rattle.cdf_unit_prefix.specs.Layout.{Layout}
 use Rattle.cdf_unit_table.specs.States.{opens, nothing, admit, complete}
-use Rattle.cdf_unit_judge.specs.Judge.{judge_of, judge_in}
+use Rattle.cdf_unit_judge.specs.Judge.{judge_of, judge_in, Judged, Fault, Found}
 use Rattle.cdf_unit_list.specs.declared.Unit.{Unit}
-use Rattle.cdf_unit_judge.specs.declared.Judged.{Judged}
-use Rattle.cdf_unit_judge.specs.declared.Judged.TheVariants.{Fault, Found}
 
 -- Where the next unit may stand: behind the own data of one that admits others, and behind the whole of any other.
 unfoldable pub after : Unit → ℕ

@@ -3,7 +3,7 @@
 
 // A unit. Positions are offsets in the stream; `own` is where its name or its numbers end, or its prefix if it has none of
 // these.
-#[derive(Clone, Copy)]
+#[derive(Clone, Copy, Default)]
 pub struct Unit {
     pub id: usize,
     pub action: usize,
@@ -14,7 +14,7 @@ pub struct Unit {
 
 // A unit with where it stands in the tree, as it is handed out: its depth, which is 1 for the root, and its rank among its
 // siblings, which is 0 for the first.
-#[derive(Clone, Copy)]
+#[derive(Clone, Copy, Default)]
 pub struct Ranked {
     pub unit: Unit,
     pub depth: usize,
@@ -22,7 +22,7 @@ pub struct Ranked {
 }
 
 // A unit whose children are being read. The state tells which unit it is and what it has had.
-#[derive(Clone, Copy)]
+#[derive(Clone, Copy, Default)]
 pub struct Open {
     pub state: usize,
     pub start: usize,

@@ -5,8 +5,7 @@ ghost use Rattle.std.specs.Prelude.{◌≡◌};
 ghost use Rattle.cdf_unit_data.specs.Standing.{row_bytes};
 ghost use Rattle.cdf_unit_data.specs.Data.{front_by, name_by};
 
-use cdf_unit_data::Own;
-
+// What a row says of a byte, as numbers: any row of bytes that is lent is promised by, whatever stands in it.
 pub const NOWHERE: u8 = 0;
 
 pub const NOT_FIRST: u8 = 1;
@@ -37,39 +36,36 @@ fn name_front(row: &[u8; 256], s: &[u8]) -> usize
     if !is_first(row, s[0]) {
         return 0;
     }
-    let mut i = 1;
-    while i < s.len() {
+    for i in 1..s.len() {
         if !is_later(row, s[i]) {
             return i;
         }
-        i += 1;
     }
-    i
+    s.len()
 }
 
-// A name with its count at the front.
-pub fn name(row: &[u8; 256], s: &[u8]) -> Own
+// A name with its count at the front: how many bytes it takes, or the first that breaks its rule.
+pub fn name(row: &[u8; 256], s: &[u8]) -> Result<usize, usize>
     ensures { result ≡ name_by (row_bytes row.now) s.now }
 {
     if s.len() == 0 {
-        return Own::Broken(0);
+        return Err(0);
     }
     let count = s[0] as usize;
     if count < 1 {
-        return Own::Broken(0);
+        return Err(0);
     }
     if 32 < count {
-        return Own::Broken(0);
+        return Err(0);
     }
     if s.len() - 1 < count {
-        return Own::Broken(0);
+        return Err(0);
     }
     let end = 1 + count;
     let front = name_front(row, &s[1..end]);
     if front == count {
-        Own::Taken(end)
+        Ok(end)
     } else {
-        let bad = 1 + front;
-        Own::Broken(bad)
+        Err(1 + front)
     }
 }

@@ -1,10 +1,7 @@
 -- The ranges of states by which the code tests kinds: at every state by computation, past them by law.
-use Prim.Native.Nat.{ℕ, ◌≤◌}
-use mathlib.Core.Path.{◌≡◌, refl}
-use mathlib.Core.Bool.{Bool, true, false, cond, ◌&&◌, and-false}
-use native.Mathlib.Omega.{arith}
-use borrow.Author.Tests.{lt-leb, ltb-true, ltb-false}
-use lib.Dec.{leb, ltb}
+use Rattle.std.proofs.Common.{ℕ, ◌≤◌, ◌≡◌, refl, Bool, true, false, cond, ◌&&◌, arith, ltb-true, ltb-false, leb, ltb}
+use Rattle.std.proofs.lemmas.Bool.{lt-leb}
+use mathlib.Core.Bool.{and-false}
 use Rattle.cdf_unit_table.specs.States.{states_end, unit_of, root_kind, admits_kind, stream_new, stream_skipped, er_new, er_skipped, file_skipped}
 use Rattle.cdf_unit_table.specs.States.{call_skipped, template_new, relation_new, ordered_skipped, entity_new, entity_skipped}
 use Rattle.cdf_unit_table.proofs.Tests.{agree}

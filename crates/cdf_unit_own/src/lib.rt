@@ -4,10 +4,9 @@
 ghost use Rattle.std.specs.Prelude.{◌≡◌, ◌≤◌, [], ◌∷◌};
 ghost use types.Run.{OneOf};
 ghost use Rattle.cdf_unit_data.specs.Standing.{row_bytes};
-ghost use Rattle.cdf_unit_data.specs.Data.{NameBytes, name_by, value_from, value_after, numbers_of, own_data_by, own_data};
+ghost use Rattle.cdf_unit_data.specs.Data.{NameBytes, name_bytes, name_by, value_from, value_after, numbers_of, own_data_by};
 
 use crate::row::NAME_BYTES;
-use cdf_unit_data::Own;
 use cdf_unit_name::name;
 use cdf_unit_table::{
     CALL, ENTITY_KEY, FIELD, LINE, ORDERED_RELATION, PARAMETER, RELATION, RELATION_KEY, TEMPLATE,
@@ -16,47 +15,70 @@ use cdf_unit_table::{
 
 pub mod row;
 
+// Which bytes may stand in a name: by a row that is lent, as a loop over many units makes it once, or as published.
+pub trait NameRow {
+    ghost bytes: { Self → NameBytes };
+
+    // A name with its count at the front.
+    fn name(&self, s: &[u8]) -> Result<usize, usize>
+        ensures { result ≡ name_by (bytes self.now) s.now };
+}
+
+impl NameRow for [u8; 256] {
+    ghost bytes = { row_bytes };
+
+    fn name(&self, s: &[u8]) -> Result<usize, usize> {
+        name(self, s)
+    }
+}
+
+// The format's row. A constant array is made anew where it is named: so only for a unit that has a name.
+pub struct Published;
+
+impl NameRow for Published {
+    ghost bytes = { λ _. name_bytes };
+
+    fn name(&self, s: &[u8]) -> Result<usize, usize> {
+        let row = NAME_BYTES;
+        name(&row, s)
+    }
+}
+
 // A value that is all but the first k bytes. A name has at most 33 bytes, so k is small.
-fn value(k: usize, s: &[u8]) -> Own
+fn value(k: usize, s: &[u8]) -> Result<usize, usize>
     requires { k ≤ 33 }
     ensures { result ≡ value_from k s.now }
 {
     if s.len() <= k + 4096 {
-        Own::Taken(k)
+        Ok(k)
     } else {
-        Own::Broken(k + 4096)
+        Err(k + 4096)
     }
 }
 
 // A name, and a value after it.
-fn name_and_value(row: &[u8; 256], s: &[u8]) -> Own
-    ensures { result ≡ value_after s.now (name_by (row_bytes row.now) s.now) }
+fn name_and_value<R: NameRow>(row: &R, s: &[u8]) -> Result<usize, usize>
+    ensures { result ≡ value_after s.now (name_by (R.bytes row.now) s.now) }
 {
-    match name(row, s) {
-        Own::Taken(k) => value(k, s),
-        Own::Broken(k) => Own::Broken(k),
-    }
+    let end = row.name(s)?;
+    value(end, s)
 }
 
 // n bytes of numbers, which only in a unit that admits others may be followed by more.
-fn numbers(n: usize, others: bool, s: &[u8]) -> Own
+fn numbers(n: usize, others: bool, s: &[u8]) -> Result<usize, usize>
     ensures { result ≡ numbers_of n others s.now }
 {
     if others {
         if n <= s.len() {
-            return Own::Taken(n);
+            return Ok(n);
         }
-        return Own::Broken(0);
+        return Err(0);
     }
-    if s.len() == n {
-        Own::Taken(n)
-    } else {
-        Own::Broken(0)
-    }
+    if s.len() == n { Ok(n) } else { Err(0) }
 }
 
 // The own data of a unit that has no name: the same by any row.
-fn unnamed(id: usize, s: &[u8]) -> Own
+fn unnamed(id: usize, s: &[u8]) -> Result<usize, usize>
     requires { (OneOf (2 ∷ 5 ∷ 11 ∷ []) id → ⊥) × (OneOf (3 ∷ 8 ∷ []) id → ⊥) }
     ensures { (w : NameBytes) → result ≡ own_data_by w id s.now }
 {
@@ -65,34 +87,18 @@ fn unnamed(id: usize, s: &[u8]) -> Own
         TEMPORARY_KEY | RELATION_KEY => numbers(4, false, s),
         RELATION => numbers(4, true, s),
         ORDERED_RELATION => numbers(8, true, s),
-        _ => Own::Taken(0),
+        _ => Ok(0),
     }
 }
 
-// The own data of a unit with this id, on the bytes after its prefix, by a row of name bytes: a loop makes that once.
-pub fn own_data_by(row: &[u8; 256], id: usize, s: &[u8]) -> Own
-    ensures { result ≡ own_data_by (row_bytes row.now) id s.now }
+// The own data of a unit with this id, on the bytes after its prefix: how many bytes its name or its numbers take, or the first byte that
+// breaks its rule.
+pub fn own_data<R: NameRow>(row: &R, id: usize, s: &[u8]) -> Result<usize, usize>
+    ensures { result ≡ own_data_by (R.bytes row.now) id s.now }
 {
     match id {
-        CALL | TEMPLATE | ENTITY_KEY => name(row, s),
+        CALL | TEMPLATE | ENTITY_KEY => row.name(s),
         PARAMETER | FIELD => name_and_value(row, s),
-        _ => unnamed(id, s),
-    }
-}
-
-// The same by the format's row. A constant array is made anew where it is named: so only for a unit that has a name.
-pub fn own_data(id: usize, s: &[u8]) -> Own
-    ensures { result ≡ own_data id s.now }
-{
-    match id {
-        CALL | TEMPLATE | ENTITY_KEY => {
-            let row = NAME_BYTES;
-            name(&row, s)
-        }
-        PARAMETER | FIELD => {
-            let row = NAME_BYTES;
-            name_and_value(&row, s)
-        }
         _ => unnamed(id, s),
     }
 }

@@ -3,8 +3,9 @@
 
 ghost use Rattle.std.specs.Prelude.{◌≡◌, [], ◌∷◌, ◌+◌, ◌*◌, ◌≤◌, ◌<◌, length};
 ghost use Rattle.cdf_unit_prefix.specs.Layout.{layout_of, edition_of, prefix_of, marked, length_at, length_fits};
-ghost use Rattle.cdf_unit_prefix.specs.Rules.{head_of};
+ghost use Rattle.cdf_unit_prefix.specs.Rules.{head_of, headed};
 
+use cdf_refusal::Refusal;
 use cdf_unit_table::is_known;
 
 // Which of the two published layouts a stream has.
@@ -21,15 +22,12 @@ pub fn edition_of(s: &[u8]) -> Edition
     Edition::First
 }
 
-// Rules 3 to 6: the number of the first that is broken, or what the prefix says.
+// What a prefix says.
 #[derive(Clone, Copy)]
-pub enum Header {
-    Stop(usize),
-    Prefix {
-        id: usize,
-        action: usize,
-        length: usize,
-    },
+pub struct Header {
+    pub id: usize,
+    pub action: usize,
+    pub length: usize,
 }
 
 // How many bytes a prefix has.
@@ -66,22 +64,7 @@ pub fn second_mark(edition: Edition) -> u8
 fn is_mark(edition: Edition, a: u8, b: u8) -> bool
     ensures { result ≡ marked (layout_of edition) (a ∷ b ∷ []) }
 {
-    let second = second_mark(edition);
-    (a == 0xCD) & (b == second)
-}
-
-fn wide(x: u8) -> usize
-    ensures { result ≡ x }
-{
-    x as usize
-}
-
-// Two bytes as a number, high byte first.
-fn pair(a: u8, b: u8) -> usize
-    ensures is { result ≡ a * 256 + b }
-    ensures small { result < 65536 }
-{
-    wide(a) * 256 + wide(b)
+    (a == 0xCD) & (b == second_mark(edition))
 }
 
 // The length that a prefix gives.
@@ -90,8 +73,8 @@ fn length_at(edition: Edition, s: &[u8]) -> usize
     ensures { result ≡ length_at (layout_of edition) s.now }
 {
     match edition {
-        Edition::First => pair(s[2], s[3]),
-        Edition::Second => pair(s[2], s[3]) * 65536 + pair(s[4], s[5]),
+        Edition::First => u16::from_be_bytes([s[2], s[3]]) as usize,
+        Edition::Second => u32::from_be_bytes([s[2], s[3], s[4], s[5]]) as usize,
     }
 }
 
@@ -106,28 +89,28 @@ fn length_fits(edition: Edition, root: bool, n: usize, len: usize) -> bool
     len <= n
 }
 
-// Rules 3 to 6.
-pub fn head(edition: Edition, root: bool, s: &[u8]) -> Header
-    ensures { result ≡ head_of (layout_of edition) root s.now }
+// Rules 3 to 6: the first that is broken, or what the prefix says.
+pub fn head(edition: Edition, root: bool, s: &[u8]) -> Result<Header, Refusal>
+    ensures { headed result ≡ head_of (layout_of edition) root s.now }
 {
     let p = prefix(edition);
     if s.len() < p {
-        return Header::Stop(3);
+        return Err(Refusal::Short);
     }
     if !is_mark(edition, s[0], s[1]) {
-        return Header::Stop(4);
+        return Err(Refusal::Mark);
     }
     let length = length_at(edition, s);
     if length < p {
-        return Header::Stop(5);
+        return Err(Refusal::Length);
     }
     if !length_fits(edition, root, s.len(), length) {
-        return Header::Stop(5);
+        return Err(Refusal::Length);
     }
-    let id = wide(s[p - 1]);
+    let id = s[p - 1] as usize;
     if !is_known(id) {
-        return Header::Stop(6);
+        return Err(Refusal::UnknownId);
     }
-    let action = wide(s[p - 2]);
-    Header::Prefix { id, action, length }
+    let action = s[p - 2] as usize;
+    Ok(Header { id, action, length })
 }

@@ -1,11 +1,5 @@
 -- The unit of a state by the state in which the same unit was skipped.
-use Prim.Native.Nat.{ℕ}
-use mathlib.Core.Path.{◌≡◌, refl, sym}
-use mathlib.Core.Bool.{Bool, true, false, ◌||◌}
-use mathlib.Core.List.{List}
-use mathlib.Core.Logic.{inl, inr}
-use borrow.Author.Tests.{ltb-true, ltb-false}
-use lib.Dec.{T, eqb, ltb, eqb→eq}
+use Rattle.std.proofs.Common.{ℕ, ◌≡◌, refl, sym, Bool, true, false, ◌||◌, List, inl, inr, ltb-true, ltb-false, T, eqb, ltb, eqb→eq}
 use Rattle.cdf_unit_table.specs.States.{states_end, unit_of, skipped}
 use Rattle.cdf_unit_table.proofs.Match.{Rest, member_of, differs}
 use Rattle.cdf_unit_table.proofs.Rows.{no_unit}

@@ -14,7 +14,7 @@ use cdf_unit_table::{
     skipped_state,
 };
 
-// The id of the unit that a state is of; 0 for a number that is no state.
+// The id of the unit that a state is of; 0 for a number that is no state, as is promised for any.
 pub fn unit_of(state: usize) -> usize
     ensures { result ≡ unit_of state }
 {
@@ -31,7 +31,7 @@ pub fn unit_of(state: usize) -> usize
     }
 }
 
-// The states but for 'skipped', a bit for each.
+// The states but for 'skipped', a bit for each, as `COMPLETE` has them: a test of one word.
 const UNSKIPPED: usize = (1 << STREAM_NEW)
     + (1 << STREAM_CALL)
     + (1 << STREAM_GROUP)

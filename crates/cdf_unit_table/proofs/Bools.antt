@@ -1,9 +1,5 @@
 -- What a passed or failed test tells.
-use mathlib.Core.Path.{◌≡◌, refl}
-use mathlib.Core.Bool.{Bool, false, true, cond, ◌&&◌, ◌||◌}
-use mathlib.Core.Logic.{◌⊎◌, inl, inr}
-use Prim.Native.Nat.{ℕ}
-use native.Mathlib.Omega.{arith}
+use Rattle.std.proofs.Common.{◌≡◌, refl, Bool, false, true, cond, ◌&&◌, ◌||◌, ◌⊎◌, inl, inr, ℕ, arith}
 
 -- Where two constructors would be equal `cc` finds 0 ≡ 1, and then anything follows.
 pub clash : {A : Type 0} → ◌≡◌ {A = ℕ} 0 1 → A

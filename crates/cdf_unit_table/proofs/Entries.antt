@@ -1,9 +1,6 @@
 -- The entries of an array, filled from the front.
-use Prim.Native.Nat.{ℕ, suc, ◌+◌, ◌-◌, ◌≤◌, ◌<◌}
-use mathlib.Core.Path.{◌≡◌}
-use mathlib.Core.List.{List, [], ◌∷◌, ◌++◌}
-use native.Mathlib.Omega.{arith}
-use lib.ListN.{length, set, replicate, length-append, length-replicate}
+use Rattle.std.proofs.Common.{ℕ, suc, ◌+◌, ◌-◌, ◌≤◌, ◌<◌, ◌≡◌, List, [], ◌∷◌, ◌++◌, arith, length, set, replicate, length-append}
+use Rattle.std.proofs.lemmas.List.{length-replicate}
 use lib.Seq.{set-append_seam, append_snoc}
 use Rattle.cdf_unit_table.specs.Entries.{padded}
 

@@ -1,12 +1,6 @@
 -- What is admitted lies lower than what admits it: rules of the rows, by one test.
-use Prim.Native.Nat.{ℕ, zero, suc, ◌<◌}
-use mathlib.Core.Path.{◌≡◌, refl}
-use mathlib.Core.Bool.{Bool, true, false, not, ◌&&◌, ◌||◌}
-use mathlib.Core.List.{List, [], ◌∷◌}
-use native.Mathlib.Omega.{arith}
-use borrow.Author.Tests.{eqb-true, ltb-true, leb-true, ne_eqb}
-use lib.Dec.{T, eqb, leb, ltb, ltb→lt}
-use lib.ListN.{get_or}
+use Rattle.std.proofs.Common.{ℕ, zero, suc, ◌<◌, ◌≡◌, refl, Bool, true, false, not, ◌&&◌, ◌||◌, List, [], ◌∷◌, arith, eqb-true, ltb-true, leb-true}
+use Rattle.std.proofs.Common.{ne_eqb, T, eqb, leb, ltb, ltb→lt, get_or}
 use Rattle.cdf_unit_table.specs.Ids.{ids_end}
 use Rattle.cdf_unit_table.specs.States.{Row, rows, states_end, admit, admits, admits_kind, unit_of, opens, nothing}
 use Rattle.cdf_unit_table.specs.Heights.{heights, height, height_in}

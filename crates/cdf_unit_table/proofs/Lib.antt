@@ -1,4 +1,5 @@
 pub mod Bools
+pub mod Options
 pub mod Tests
 pub mod Match
 pub mod Tables

@@ -1,11 +1,6 @@
 -- What a `match` on a number tells in its arms, against tests that antt computes at the arms' keys.
-use Prim.Native.Nat.{ℕ, ◌≤◌}
-use mathlib.Core.Path.{◌≡◌, sym, refl, subst, ◌∙◌}
-use mathlib.Core.Bool.{Bool, true, false, ◌||◌}
-use mathlib.Core.List.{List, [], ◌∷◌}
-use mathlib.Core.Logic.{inl, inr}
-use borrow.Author.Tests.{ltb-true, ltb-false}
-use lib.Dec.{T, eqb, ltb, eqb→eq}
+use Rattle.std.proofs.Common.{ℕ, ◌≤◌, ◌≡◌, sym, refl, subst, ◌∙◌, Bool, true, false, ◌||◌, List, [], ◌∷◌, inl, inr, ltb-true, ltb-false, T, eqb, ltb}
+use Rattle.std.proofs.Common.{eqb→eq}
 use types.Run.{OneOf}
 use Rattle.cdf_unit_table.specs.Ids.{member}
 use Rattle.cdf_unit_table.proofs.Tests.{or_else, below, below_at}

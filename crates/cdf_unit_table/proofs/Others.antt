@@ -1,11 +1,6 @@
 -- The ids that no arm of a `match` names: their actions and their own data.
-use Prim.Native.Nat.{ℕ, ◌≤◌}
-use mathlib.Core.Path.{◌≡◌, refl}
-use mathlib.Core.Bool.{Bool, true, false, ◌&&◌, ◌||◌, or-false}
-use mathlib.Core.List.{List, [], ◌∷◌}
-use native.Mathlib.Omega.{arith}
-use borrow.Author.Tests.{le-leb, le-ltb, eqb-true}
-use lib.Dec.{T, eqb}
+use Rattle.std.proofs.Common.{ℕ, ◌≤◌, ◌≡◌, refl, Bool, true, false, ◌&&◌, ◌||◌, List, [], ◌∷◌, arith, le-leb, le-ltb, eqb-true, T, eqb}
+use mathlib.Core.Bool.{or-false}
 use lib.ListN.{get_or-eq_default}
 use Rattle.cdf_unit_table.specs.Ids.{member, Rule, blank, name, name_value, value, numbers, Kind, kinds, kind_of, known, action_allowed, ids_end}
 use Rattle.cdf_unit_table.proofs.Tests.{below, and_left, and_right, is_true}

@@ -1,10 +1,7 @@
 -- What parts of a list are, in the definitions' words.
-use Prim.Native.Nat.{ℕ, zero, suc, ◌≤◌, ◌+◌, ◌-◌}
-use mathlib.Core.Path.{◌≡◌, sym}
-use mathlib.Core.List.{List, [], ◌∷◌}
-use native.Mathlib.Omega.{arith}
-use lib.ListN.{length, take, drop, length-take, length-drop}
-use lib.Seq.{take-nil, take_all, take-take, drop-drop}
+use Rattle.std.proofs.Common.{ℕ, zero, suc, ◌≤◌, ◌+◌, ◌-◌, ◌≡◌, sym, List, [], ◌∷◌, arith, length, take, drop, length-take, length-drop, take_all}
+use Rattle.std.proofs.Common.{take-take, drop-drop}
+use lib.Seq.{take-nil}
 
 -- of &s[1..1 + n]
 pub minus_one : (n : ℕ) → 1 + n - 1 ≡ n

@@ -1,9 +1,5 @@
 -- The claims of this crate, proved.
-use Prim.Native.Nat.{ℕ}
-use mathlib.Core.Path.{◌≡◌, refl, ◌∙◌}
-use mathlib.Core.Bool.{not, ◌&&◌}
-use borrow.Author.Tests.{eq-eqb}
-use lib.Dec.{T, eqb, leb}
+use Rattle.std.proofs.Common.{ℕ, ◌≡◌, refl, ◌∙◌, not, ◌&&◌, eq-eqb, T, eqb, leb}
 use Rattle.cdf_unit_table.specs.States.{rows, parents, admit, skipped}
 use Rattle.cdf_unit_table.specs.Tables.{states_found, states_due, kinds_found, kinds_due}
 use Rattle.cdf_unit_table.specs.Claims.{Claims}

@@ -1,13 +1,9 @@
 -- Rules of the rows and of the parents that a `match` on a state or an id states arm by arm, each proved once by a test that
 -- antt computes over all of them.
-use Prim.Native.Nat.{ℕ, ◌≤◌, ◌<◌}
-use mathlib.Core.Path.{◌≡◌, refl, sym, subst, ◌∙◌}
-use mathlib.Core.Bool.{Bool, true, false, not, cond, ◌&&◌, ◌||◌, and-false, false≢true}
-use mathlib.Core.List.{List, [], ◌∷◌}
-use mathlib.Core.Logic.{⊎_elim}
-use borrow.Author.Tests.{eq-eqb, ne_eqb, eqb-true, leb-true, le-leb, lt-leb, ltb-true, ltb-false, lt-ltb}
-use native.Mathlib.Omega.{arith}
-use lib.Dec.{T, eqb, ltb, leb, ltb→lt}
+use Rattle.std.proofs.Common.{ℕ, ◌≤◌, ◌<◌, ◌≡◌, refl, sym, subst, ◌∙◌, Bool, true, false, not, cond, ◌&&◌, ◌||◌, List, [], ◌∷◌, ⊎_elim, eq-eqb}
+use Rattle.std.proofs.Common.{ne_eqb, eqb-true, leb-true, le-leb, ltb-true, ltb-false, lt-ltb, arith, T, eqb, ltb, leb, ltb→lt}
+use Rattle.std.proofs.lemmas.Bool.{false≢true, lt-leb}
+use mathlib.Core.Bool.{and-false}
 use Rattle.cdf_unit_table.specs.Ids.{member, stream, er_group, file_group, ids_end}
 use Rattle.cdf_unit_table.specs.States.{Row, rows, admit_from, admit, admits, root_kind, any_row, admits_kind}
 use Rattle.cdf_unit_table.specs.States.{Parent, parents, pick, nothing, opens, unit_of, states_end}
@@ -75,6 +71,11 @@ unfolding admit
 admit_unknown s c h =
     from_rows (λ n. n ≡ 0) (λ r. ltb r.child ids_end) s c refl
     (λ r t d e. absurd (omega (arith, ltb→lt r.child ids_end t))) rows tt
+
+-- 0 is no unit's id.
+pub admit_none : (s : ℕ) → admit s 0 ≡ 0
+unfolding admit
+admit_none s = from_rows (λ n. n ≡ 0) (λ r. ltb 0 r.child) s 0 refl (λ r t d e. absurd (omega (arith, ltb→lt 0 r.child t))) rows tt
 
 -- A child leads from each state of a range to one state, and from no other.
 pub ranged : (from to next c : ℕ) → to < states_end →

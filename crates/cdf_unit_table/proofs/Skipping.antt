@@ -1,10 +1,7 @@
 -- The skipped state: by the ends of the units' ranges, and as what it is. At every state by computation, past them by law.
-use Prim.Native.Nat.{ℕ, ◌≤◌}
-use mathlib.Core.Path.{◌≡◌, refl}
-use mathlib.Core.Bool.{cond, ◌&&◌, and-false}
-use native.Mathlib.Omega.{arith}
-use borrow.Author.Tests.{le-ltb, lt-leb, leb-true}
-use lib.Dec.{leb, ltb, ltb→lt}
+use Rattle.std.proofs.Common.{ℕ, ◌≤◌, ◌≡◌, refl, cond, ◌&&◌, arith, le-ltb, leb-true, leb, ltb, ltb→lt}
+use Rattle.std.proofs.lemmas.Bool.{lt-leb}
+use mathlib.Core.Bool.{and-false}
 use Rattle.cdf_unit_table.specs.States.{parents, states_end, unit_of, skipped, complete, stream_new, stream_skipped, er_skipped, file_skipped}
 use Rattle.cdf_unit_table.specs.States.{call_skipped, template_skipped, relation_skipped, ordered_skipped, entity_skipped}
 use Rattle.cdf_unit_table.proofs.Bools.{both}

@@ -1,12 +1,7 @@
 -- Tables over the numbers that are the same: below a bound by one computation, and from there on by their laws.
-use Prim.Native.Nat.{ℕ, zero, suc, ◌<◌, ◌≤◌}
-use mathlib.Core.Path.{◌≡◌, refl}
-use mathlib.Core.Bool.{Bool, true, false}
-use mathlib.Core.List.{List, [], ◌∷◌}
-use native.Mathlib.Omega.{arith}
-use native.Mathlib.Nat.{not-suc-le-zero}
-use borrow.Author.Tests.{ltb-true, ltb-false, eqb-true, eqb-false}
-use lib.Dec.{eqb, ltb}
+use Rattle.std.proofs.Common.{ℕ, zero, suc, ◌<◌, ◌≤◌, ◌≡◌, refl, Bool, true, false, List, [], ◌∷◌, arith, not-suc-le-zero, ltb-true, ltb-false}
+use Rattle.std.proofs.Common.{eqb-true, eqb, ltb}
+use Rattle.std.proofs.lemmas.Bool.{eqb-false}
 
 module _ {A : Type 0} where
   -- the entries below a bound, the last first

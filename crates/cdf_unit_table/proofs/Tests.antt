@@ -1,14 +1,9 @@
 -- Tests that antt computes, and what they tell: at each element of a list, and at each number below a bound.
-use Prim.Native.Nat.{ℕ, zero, suc, ◌/◌, ◌%◌, ◌^◌, ◌<◌, ◌≤◌}
-use mathlib.Core.Path.{◌≡◌, refl, sym, subst}
-use mathlib.Core.Bool.{Bool, true, false, ◌&&◌, ◌||◌, beq}
-use mathlib.Core.List.{List, [], ◌∷◌}
-use mathlib.Core.Logic.{◌⊎◌, inl, inr}
-use native.Mathlib.Omega.{arith}
-use native.Mathlib.Nat.{not-suc-le-zero}
-use borrow.Author.Tests.{ltb-true, ltb-false, eqb-true, eqb-false, ne_eqb, le-ltb}
+use Rattle.std.proofs.Common.{ℕ, zero, suc, ◌/◌, ◌%◌, ◌^◌, ◌<◌, ◌≤◌, ◌≡◌, refl, sym, subst, Bool, true, false, ◌&&◌, ◌||◌, List, [], ◌∷◌, ◌⊎◌, inl}
+use Rattle.std.proofs.Common.{inr, arith, not-suc-le-zero, ltb-true, ltb-false, eqb-true, ne_eqb, le-ltb, T, ltb, eqb, ltb→lt}
+use Rattle.std.proofs.lemmas.Bool.{eqb-false}
+use mathlib.Core.Bool.{beq}
 use lib.Bits.{bit_and}
-use lib.Dec.{T, ltb, eqb, ltb→lt}
 use Rattle.cdf_unit_table.specs.Ids.{member}
 
 pub and_left : (a b : Bool) → T (a && b) → T a

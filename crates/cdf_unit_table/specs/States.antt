@@ -1,6 +1,6 @@
 -- The column "admits" of 01's table ("One unit"). A state is one number that tells a unit that admits others and what it has
 -- had; the states of a unit stand together, from the one in which it has had nothing to the one in which it was skipped.
-use Rattle.std.specs.Prelude.{ℕ, Bool, true, false, not, ◌&&◌, ◌||◌, cond, List, [], ◌∷◌, leb, eqb}
+use Rattle.std.specs.Prelude.{ℕ, Bool, true, false, not, ◌&&◌, ◌||◌, cond, List, [], ◌∷◌, leb, eqb, zero, suc, Option, Some, None}
 use Rattle.cdf_unit_table.specs.Ids.{member, stream, call, parameter, er_group, template, temporary_key, template_key, field}
 use Rattle.cdf_unit_table.specs.Ids.{relation, ordered_relation, entity_key, relation_key, file_group, line}
 
@@ -260,3 +260,8 @@ complete_states =
 unfoldable pub complete : ℕ → Bool
 unfolding member
 complete state = member state complete_states
+
+-- A state, as the code tells it; none is 0.
+abbrev pub some_state : ℕ → Option ℕ
+some_state zero = None
+some_state (suc n) = Some (suc n)

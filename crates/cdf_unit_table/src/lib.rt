@@ -1,10 +1,11 @@
 // The table of units: which there are, their actions, what each admits and when it is complete.
 #![tactic(auto)]
 
-ghost use Rattle.std.specs.Prelude.{◌≡◌, ◌&&◌, cond, leb};
+ghost use Rattle.std.specs.Prelude.{◌≡◌, ◌&&◌, cond, leb, Some, None};
 ghost use Rattle.cdf_unit_table.specs.Ids.{known, action_allowed, temporary_key, template_key, entity_key, relation_key};
-ghost use Rattle.cdf_unit_table.specs.States.{admit, root_kind, nothing, skipped, complete};
+ghost use Rattle.cdf_unit_table.specs.States.{admit, root_kind, nothing, skipped, complete, some_state};
 
+// Ids, actions and states are numbers, and no enums: each open function that takes one answers for any number, as programs hand them in.
 // The ids.
 pub const STREAM: usize = 1;
 
@@ -133,24 +134,24 @@ pub fn action_allowed(id: usize, action: usize) -> bool
     }
 }
 
-// The state of a unit of this id that has had nothing; 0 where it admits no others.
-pub fn first_state(id: usize) -> usize
-    ensures { result ≡ nothing id }
+// The state of a unit of this id that has had nothing, where it admits others.
+pub fn first_state(id: usize) -> Option<usize>
+    ensures { result ≡ some_state (nothing id) }
 {
     match id {
-        STREAM => STREAM_NEW,
-        CALL => CALL_NEW,
-        ER_GROUP => ER_NEW,
-        TEMPLATE => TEMPLATE_NEW,
-        RELATION => RELATION_NEW,
-        ORDERED_RELATION => ORDERED_NEW,
-        ENTITY_KEY => ENTITY_NEW,
-        FILE_GROUP => FILE_NEW,
-        _ => 0,
+        STREAM => Some(STREAM_NEW),
+        CALL => Some(CALL_NEW),
+        ER_GROUP => Some(ER_NEW),
+        TEMPLATE => Some(TEMPLATE_NEW),
+        RELATION => Some(RELATION_NEW),
+        ORDERED_RELATION => Some(ORDERED_NEW),
+        ENTITY_KEY => Some(ENTITY_NEW),
+        FILE_GROUP => Some(FILE_NEW),
+        _ => None,
     }
 }
 
-// The state of the same unit in which it was skipped; 0 for a number that is no state.
+// The state of the same unit in which it was skipped; 0 for a number that is no state, as is promised for any.
 pub fn skipped_state(state: usize) -> usize
     ensures { result ≡ skipped state }
 {
@@ -214,58 +215,58 @@ pub fn is_complete(state: usize) -> bool
     (state < 32) & ((COMPLETE >> (state % 32)) & 1 == 1)
 }
 
-// The state from one of these on, or 0.
-fn within(state: usize, from: usize, to: usize, next: usize) -> usize
-    ensures { result ≡ cond (leb from state && leb state to) next 0 }
+// The state from one of these on.
+fn within(state: usize, from: usize, to: usize, next: usize) -> Option<usize>
+    ensures { result ≡ cond (leb from state && leb state to) (Some next) None }
 {
     if (from <= state) & (state <= to) {
-        next
+        Some(next)
     } else {
-        0
+        None
     }
 }
 
-// The state after a temporary key, which is a unit's only key, or 0.
-fn after_temporary(state: usize) -> usize
-    ensures { result ≡ admit state temporary_key }
+// The state after a temporary key, which is a unit's only key.
+fn after_temporary(state: usize) -> Option<usize>
+    ensures { result ≡ some_state (admit state temporary_key) }
 {
     match state {
-        TEMPLATE_NEW => TEMPLATE_TEMPORARY,
-        ENTITY_NEW => ENTITY_TEMPORARY,
-        _ => 0,
+        TEMPLATE_NEW => Some(TEMPLATE_TEMPORARY),
+        ENTITY_NEW => Some(ENTITY_TEMPORARY),
+        _ => None,
     }
 }
 
-// The state after a template key, or 0.
-fn after_key(state: usize) -> usize
-    ensures { result ≡ admit state template_key }
+// The state after a template key.
+fn after_key(state: usize) -> Option<usize>
+    ensures { result ≡ some_state (admit state template_key) }
 {
     match state {
-        TEMPLATE_NEW => TEMPLATE_KEYS,
-        TEMPLATE_KEYS => TEMPLATE_KEYS,
-        ENTITY_NEW => ENTITY_KEYS,
-        ENTITY_KEYS => ENTITY_KEYS,
-        _ => 0,
+        TEMPLATE_NEW => Some(TEMPLATE_KEYS),
+        TEMPLATE_KEYS => Some(TEMPLATE_KEYS),
+        ENTITY_NEW => Some(ENTITY_KEYS),
+        ENTITY_KEYS => Some(ENTITY_KEYS),
+        _ => None,
     }
 }
 
-// The state after an entity key or a relation key, the source or the target of a relation, or 0.
-fn after_end(state: usize) -> usize
-    ensures { (result ≡ admit state entity_key) × (result ≡ admit state relation_key) }
+// The state after an entity key or a relation key, the source or the target of a relation.
+fn after_end(state: usize) -> Option<usize>
+    ensures { (result ≡ some_state (admit state entity_key)) × (result ≡ some_state (admit state relation_key)) }
 {
     match state {
-        RELATION_NEW => RELATION_SOURCE,
-        RELATION_SOURCE => RELATION_TARGET,
-        ORDERED_NEW => ORDERED_SOURCE,
-        ORDERED_SOURCE => ORDERED_TARGET,
-        _ => 0,
+        RELATION_NEW => Some(RELATION_SOURCE),
+        RELATION_SOURCE => Some(RELATION_TARGET),
+        ORDERED_NEW => Some(ORDERED_SOURCE),
+        ORDERED_SOURCE => Some(ORDERED_TARGET),
+        _ => None,
     }
 }
 
-// The state after a child of this id, or 0 where it is not admitted. Neighbouring ids have an arm each: an arm for both would
-// be proved as a range.
-pub fn state_after(state: usize, child: usize) -> usize
-    ensures { result ≡ admit state child }
+// The state after a child of this id, where it is admitted. Neighbouring ids have an arm each: an arm for both would be proved as a
+// range.
+pub fn state_after(state: usize, child: usize) -> Option<usize>
+    ensures { result ≡ some_state (admit state child) }
 {
     match child {
         CALL => within(state, STREAM_NEW, STREAM_GROUP, STREAM_CALL),
@@ -279,6 +280,6 @@ pub fn state_after(state: usize, child: usize) -> usize
         ENTITY_KEY => after_end(state),
         RELATION_KEY => after_end(state),
         LINE => within(state, FILE_NEW, FILE_LINES, FILE_LINES),
-        _ => 0,
+        _ => None,
     }
 }

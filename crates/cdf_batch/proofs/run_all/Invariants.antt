@@ -1,16 +1,12 @@
 -- The rest of the pass, from where the loop stands, comes to what the whole does.
-use mathlib.Core.Path.{◌≡◌}
-use Prim.Native.Nat.{◌-◌}
-use lib.ListN.{length, drop}
+use Rattle.std.proofs.Common.{◌≡◌, drop}
 use Rattle.cdf_unit_prefix.specs.Layout.{layout_of}
 use Rattle.cdf_unit_prefix.specs.declared.Edition.TheVariants.{First}
-use Rattle.cdf_batch_turn.specs.Passes.{going, pass_of}
+use Rattle.cdf_batch_turn.specs.Numbers.{viewed}
+use Rattle.cdf_batch_turn.specs.Passes.{writes, going, pass_of}
 use Rattle.cdf_batch.proofs.run_all.Given as goal
 
-abbrev pub invariant-loop-k : goal.invariant-loop-k
-invariant-loop-k l =
-    pass_of (layout_of First) l.text (going l.ran l.buffer) l.k (drop l.k l.list)
-    ≡ pass_of (layout_of First) l.fn.text (going l.fn.start l.fn.buffer) 0 l.fn.list
-
-abbrev pub decreases-loop-k : goal.decreases-loop-k
-decreases-loop-k l = length l.list - l.k
+abbrev pub invariant-loop-rank : goal.invariant-loop-rank
+invariant-loop-rank l =
+    pass_of (layout_of First) l.text (going (writes l.pass) (viewed l.place) l.buffer) l.rank-counter (drop l.rank-counter l.list)
+    ≡ pass_of (layout_of First) l.fn.text (going (writes l.fn.pass) (viewed l.fn.start) l.fn.buffer) 0 l.fn.list

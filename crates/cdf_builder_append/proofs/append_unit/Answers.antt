@@ -1,5 +1,5 @@
 -- The unit, and then the lengths.
-use mathlib.Core.Path.{◌∙◌}
+use Rattle.std.proofs.Common.{◌∙◌}
 use Rattle.cdf_builder_spec.specs.Calls.{write_of}
 use Rattle.cdf_builder_append.proofs.append_unit.Goals as goal
 

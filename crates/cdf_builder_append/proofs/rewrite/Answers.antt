@@ -1,5 +1,5 @@
 -- Those around the innermost one, and then that one (proofs/Lengths).
-use mathlib.Core.Path.{◌∙◌}
+use Rattle.std.proofs.Common.{◌∙◌}
 use Rattle.cdf_builder_append.proofs.Lengths.{empty, all}
 use Rattle.cdf_builder_append.proofs.rewrite.Goals as goal
 

@@ -1,17 +1,14 @@
--- What is decided, and where that is 0, what is written (proofs/Calling).
+-- What is decided, and where nothing is refused, what is written (proofs/Calling).
+use Rattle.std.proofs.lemmas.Result.{err_from_is_err_and}
 use Rattle.cdf_builder_spec.specs.Requests.{bytes_for}
 use Rattle.cdf_builder_calls.proofs.Calling.{refusing, writing}
 use Rattle.cdf_builder_calls.proofs.add_stream_as.Goals as goal
 
-pub returns-then-added-ne0 : goal.returns-then-added-ne0
-returns-then-added-ne0 c =
-    let built = c.decide_group-added in
-    record { is = refusing _ _ _ _ _ built.ensures.is c.if-added-ne0.true; kept = built.ensures.kept }
+pub returns-in_err-place : goal.returns-in_err-place
+returns-in_err-place c =
+    let p = err_from_is_err_and c.from_residual.result c.from_residual.ensures.1 in
+    rw (p.1, p.2) (refusing _ _ _ _ _ c.in_err-place.ensures)
 
 pub returns : goal.returns
 unfolding bytes_for
-returns c =
-    let wrote = c.append_group in
-    let none = c.if-added-ne0.false in
-    let built = c.decide_group-added in
-    record { is = writing _ _ _ _ _ built.ensures.is none _ wrote.ensures; kept = built.ensures.kept }
+returns c = writing _ _ _ _ _ c.in_ok-place.ensures _ c.append_group.ensures

@@ -1,71 +1,60 @@
 -- Each return by its law (proofs/Stages).
-use Prim.Native.Nat.{◌+◌, ◌<◌}
-use mathlib.Core.Path.{refl, sym, ◌∙◌}
-use mathlib.Core.Bool.{true}
-use native.Mathlib.Omega.{arith}
-use borrow.Author.Tests.{not-true, not-false}
-use lib.ListN.{length}
+use Rattle.std.proofs.Common.{◌+◌, ◌<◌, refl, sym, ◌∙◌, arith, length}
+use Rattle.std.proofs.lemmas.Result.{err_from_is_err_and}
+use Rattle.cdf_refusal.proofs.Apart.{refuses}
+use Rattle.cdf_unit_table.specs.States.{nothing}
 use Rattle.cdf_unit_prefix.specs.Layout.{layout_of}
 use Rattle.cdf_builder_spec.specs.Requests.{unit}
 use Rattle.cdf_builder_spec.specs.Slots.{placed}
 use Rattle.cdf_builder_decide.proofs.Stages.{declined, unfit, unknown, not_joined, wrong, Grows, grows, unit_grows, sum_fits}
 use Rattle.cdf_builder_decide.proofs.Few.{growable}
 use Rattle.cdf_builder_decide.proofs.decide_unit.Goals as goal
-use Rattle.cdf_builder_decide.proofs.decide_unit.Goals.{After-first_state-first}
+use Rattle.cdf_builder_decide.proofs.decide_unit.Goals.{After-first_state}
 
 -- No rule of its own is broken.
-asked : (c : After-first_state-first) →
+asked : (c : After-first_state) →
     let a = c.args in
-    let left = c.join_place-left.result in
+    let left = c.in_ok-left.left in
     Grows (layout_of a.edition) a.n a.p (unit (record { id = a.id; action = a.action; text = a.«data».now })) left.count left.top
-    (c.prefix.result + length a.«data».now) c.first_state-first.result
+    (c.prefix.result + length a.«data».now) (nothing a.id)
 asked c =
     let prefix = c.prefix.ensures in
-    let fit = sym c.is_fit.ensures ∙ not-false c.is_fit.result c.if-not-is_fit.false-raw in
-    let is = sym c.is_known.ensures ∙ not-false c.is_known.result c.if-not-is_known.false-raw in
+    let fit = sym c.is_fit.ensures ∙ c.if-not-is_fit.false in
+    let is = sym c.is_known.ensures ∙ c.if-not-is_known.false in
     let a = c.args in
     let small : length a.«data».now < 9223372036854775808 = omega arith in
     let size = c.prefix.result + length a.«data».now in
     let sum = sum_fits a.edition a.n (placed a.p) size fit (omega (arith, prefix.near, small)) in
-    unit_grows _ _ _ _ _ fit _ (sym c.join_place-left.ensures.number ∙ c.if-left-ne0.false) c.join_place-left.ensures.left _ _ is
-    (sym c.own_fault-fault.ensures ∙ c.if-fault-ne0.false) _ sum (rw prefix.is) _ c.first_state-first.ensures
+    unit_grows _ _ _ _ _ fit _ (sym c.in_ok-left.ensures.number) c.in_ok-left.ensures.left _ _ is
+    (sym c.in_ok-own_fault.ensures) _ sum (rw prefix.is) _ refl
 
 pub returns-then-not-is_fit : goal.returns-then-not-is_fit
-returns-then-not-is_fit c =
-    let asked = c.is_fit in
-    let out = sym asked.ensures ∙ not-true asked.result c.if-not-is_fit.true-raw in
-    record { is = sym (declined _ _ _ _ 2 (λ e. omega arith) (unfit _ _ _ _ out)); kept = λ some. refl }
+returns-then-not-is_fit c = sym (declined _ _ _ _ 2 (λ e. omega arith) (unfit _ _ _ _ (sym c.is_fit.ensures ∙ c.if-not-is_fit.true)))
 
 pub returns-then-not-is_known : goal.returns-then-not-is_known
 returns-then-not-is_known c =
-    let asked = c.is_known in
-    let none = sym asked.ensures ∙ not-true asked.result c.if-not-is_known.true-raw in
-    let fit = sym c.is_fit.ensures ∙ not-false c.is_fit.result c.if-not-is_fit.false-raw in
-    record { is = sym (declined _ _ _ _ 6 (λ e. omega arith) (unknown _ _ _ _ fit none)); kept = λ some. refl }
+    let fit = sym c.is_fit.ensures ∙ c.if-not-is_fit.false in
+    sym (declined _ _ _ _ 6 (λ e. omega arith) (unknown _ _ _ _ fit (sym c.is_known.ensures ∙ c.if-not-is_known.true)))
 
-pub returns-then-left-ne0 : goal.returns-then-left-ne0
-returns-then-left-ne0 c =
-    let fit = sym c.is_fit.ensures ∙ not-false c.is_fit.result c.if-not-is_fit.false-raw in
-    let is = sym c.is_known.ensures ∙ not-false c.is_known.result c.if-not-is_known.false-raw in
-    record {
-      is = sym (declined _ _ _ _ _ c.if-left-ne0.true
-          (not_joined _ _ _ _ fit is _ c.join_place-left.ensures.number c.if-left-ne0.true));
-      kept = λ some. refl;
-    }
+pub returns-in_err-left : goal.returns-in_err-left
+returns-in_err-left c =
+    let fit = sym c.is_fit.ensures ∙ c.if-not-is_fit.false in
+    let is = sym c.is_known.ensures ∙ c.if-not-is_known.false in
+    let p = err_from_is_err_and c.from_residual.result c.from_residual.ensures.1 in
+    rw (p.1, p.2) (sym (declined _ _ _ _ _ (refuses _) (not_joined _ _ _ _ fit is _ c.in_err-left.ensures.number (refuses _))))
 
-pub returns-then-fault-ne0 : goal.returns-then-fault-ne0
-returns-then-fault-ne0 c =
-    let fit = sym c.is_fit.ensures ∙ not-false c.is_fit.result c.if-not-is_fit.false-raw in
-    let is = sym c.is_known.ensures ∙ not-false c.is_known.result c.if-not-is_known.false-raw in
-    record {
-      is = sym (declined _ _ _ _ _ c.if-fault-ne0.true
-          (wrong _ _ _ _ fit is (sym c.join_place-left.ensures.number ∙ c.if-left-ne0.false) _ c.own_fault-fault.ensures
-          c.if-fault-ne0.true));
-      kept = λ some. refl;
-    }
+pub returns-in_err-own_fault : goal.returns-in_err-own_fault
+returns-in_err-own_fault c =
+    let fit = sym c.is_fit.ensures ∙ c.if-not-is_fit.false in
+    let is = sym c.is_known.ensures ∙ c.if-not-is_known.false in
+    let joined = sym c.in_ok-left.ensures.number in
+    let p = err_from_is_err_and c.from_residual-in_err-own_fault.result c.from_residual-in_err-own_fault.ensures.1 in
+    rw (p.1, p.2) (sym (declined _ _ _ _ _ (refuses _) (wrong _ _ _ _ fit is joined _ c.in_err-own_fault.ensures (refuses _))))
 
 pub grow-requires : goal.grow-requires
-grow-requires c = growable _ _ _ _ _ _ _ _ (asked (goal.at.grow-requires c).After-first_state-first)
+grow-requires c = (asked (goal.at.grow-requires c).After-first_state).sum
 
 pub returns : goal.returns
-returns c = record { is = c.grow.ensures.is ∙ grows _ _ _ _ _ _ _ _ (asked (goal.at.returns c).After-first_state-first); kept = c.grow.ensures.kept }
+returns c =
+    let w = asked (goal.at.returns c).After-first_state in
+    c.grow.ensures _ c.first_state.ensures (growable _ _ _ _ _ _ _ _ w) ∙ grows _ _ _ _ _ _ _ _ w

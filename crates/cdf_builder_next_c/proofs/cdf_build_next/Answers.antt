@@ -4,8 +4,6 @@ use Rattle.cdf_builder_next_c.proofs.cdf_build_next.Goals as goal
 
 pub returns : goal.returns
 returns c =
-    let before = c.args.place.now in
-    let due = c.next-built.ensures in
     let left = c.store.ensures in
-    let all = called _ before _ _ c.builder_from-p.ensures c.next-built.result due.kept _ due.is _ left.number _ left.place in
+    let all = called _ c.args.place.now _ _ c.builder_from.ensures c.next-answer.result _ c.next-answer.ensures _ left.number _ left.place in
     record { is = all.0; stays = all.1 }

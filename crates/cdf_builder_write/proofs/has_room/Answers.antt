@@ -1,10 +1,6 @@
 -- What is left after so many bytes is compared, so that no sum is made.
-use mathlib.Core.Path.{◌≡◌, refl, sym}
-use mathlib.Core.Bool.{Bool, true, false}
-use Prim.Native.Nat.{ℕ, ◌+◌, ◌-◌, ◌≤◌}
-use native.Mathlib.Omega.{arith}
-use borrow.Author.Tests.{leb-true, leb-false, le-leb, lt-leb}
-use lib.Dec.{leb}
+use Rattle.std.proofs.Common.{◌≡◌, refl, sym, Bool, true, false, ℕ, ◌+◌, ◌-◌, ◌≤◌, arith, leb-true, leb-false, le-leb, leb}
+use Rattle.std.proofs.lemmas.Bool.{lt-leb}
 use Rattle.cdf_builder_write.proofs.has_room.Goals as goal
 
 less : (at count n : ℕ) → count ≤ n → leb at (n - count) ≡ leb (at + count) n

@@ -1,10 +1,6 @@
 -- The mark, the length in the tail behind it, and then the action and the id.
-use mathlib.Core.Path.{◌≡◌, ◌∙◌}
-use mathlib.Core.List.{List}
-use Prim.Native.Nat.{ℕ, ◌+◌, ◌-◌}
-use native.Mathlib.Omega.{arith}
+use Rattle.std.proofs.Common.{◌≡◌, ◌∙◌, List, ℕ, ◌+◌, ◌-◌, arith, length, set, length-set, length-drop}
 use borrow.Rule.Slice.PartMut.{put_mid}
-use lib.ListN.{length, set, length-set, length-drop}
 use Rattle.cdf_unit_prefix.specs.Layout.{layout_of}
 use Rattle.cdf_unit_table.proofs.Parts.{rest}
 use Rattle.cdf_grammar.specs.Encoding.{bytes_of}

@@ -1,8 +1,5 @@
 -- The prefix, and then the data in the tail behind it.
-use Prim.Native.Nat.{◌-◌}
-use mathlib.Core.Path.{◌∙◌}
-use borrow.Author.Rules.{rules}
-use lib.ListN.{length, take, drop}
+use Rattle.std.proofs.Common.{◌-◌, ◌∙◌, rules, length, take, drop}
 use Rattle.cdf_unit_prefix.specs.Layout.{layout_of}
 use Rattle.cdf_builder_copy.proofs.Lent.{lent}
 use Rattle.cdf_builder_copy.proofs.Onto.{onto_some}

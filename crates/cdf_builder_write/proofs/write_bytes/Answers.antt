@@ -1,9 +1,5 @@
 -- The tail that is lent begins at the writing place, where there is room.
-use mathlib.Core.Path.{refl, sym, ◌∙◌}
-use Prim.Native.Nat.{◌+◌, ◌≤◌}
-use native.Mathlib.Omega.{arith}
-use borrow.Author.Tests.{leb-true}
-use lib.ListN.{length}
+use Rattle.std.proofs.Common.{refl, sym, ◌∙◌, ◌+◌, ◌≤◌, arith, leb-true, length}
 use Rattle.cdf_builder_copy.proofs.Onto.{onto_lent}
 use Rattle.cdf_builder_write.proofs.Lent.{wrote, stayed}
 use Rattle.cdf_builder_write.proofs.write_bytes.Goals as goal

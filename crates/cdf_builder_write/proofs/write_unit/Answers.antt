@@ -1,10 +1,5 @@
 -- The tail that is lent begins at the writing place, where there is room.
-use mathlib.Core.Path.{sym, ◌∙◌}
-use mathlib.Core.List.{[]}
-use Prim.Native.Nat.{◌+◌, ◌≤◌}
-use native.Mathlib.Omega.{arith}
-use borrow.Author.Tests.{leb-true}
-use lib.ListN.{length, length-drop}
+use Rattle.std.proofs.Common.{sym, ◌∙◌, [], ◌+◌, ◌≤◌, arith, leb-true, length, length-drop}
 use Rattle.cdf_unit_prefix.specs.Layout.{layout_of, prefix_of}
 use Rattle.cdf_unit_table.proofs.Parts.{rest}
 use Rattle.cdf_grammar.specs.Encoding.{unit_bytes}

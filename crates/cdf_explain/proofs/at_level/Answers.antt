@@ -1,5 +1,5 @@
 -- By the count.
-use borrow.Author.Tests.{eq-eqb, ne_eqb, lt-ltb, le-ltb}
+use Rattle.std.proofs.Common.{eq-eqb, ne_eqb, lt-ltb, le-ltb}
 use Rattle.cdf_explain.proofs.at_level.Goals as goal
 
 pub returns-then-count-k : goal.returns-then-count-k

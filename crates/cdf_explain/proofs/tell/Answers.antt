@@ -1,4 +1,5 @@
--- Level by level: `u1` to `u4` are where the ids of the units are known, `l1` to `l4` where the units are.
+-- Level by level.
+use Rattle.cdf_refusal.specs.Numbers.{number_of}
 use Rattle.cdf_explain.proofs.Levels.{told_at_lem}
 use Rattle.cdf_explain.proofs.tell.Goals as goal
 
@@ -6,14 +7,15 @@ pub returns : goal.returns
 returns c =
     let a = c.args in
     rw (
-      c.unit_of-unit1.ensures,
-      c.unit_of-unit2.ensures,
-      c.unit_of-unit3.ensures,
-      c.unit_of-unit4.ensures,
-      c.at_level-first.ensures,
-      c.at_level-second.ensures,
-      c.at_level-third.ensures,
-      c.at_level-fourth.ensures,
-      c.admitted-listed.ensures,
+      c.number.ensures,
+      c.from-root.ensures,
+      c.from-second.ensures,
+      c.from-third.ensures,
+      c.from-fourth.ensures,
+      c.at_level.ensures,
+      c.at_level-2.ensures,
+      c.at_level-3.ensures,
+      c.at_level-4.ensures,
+      c.admitted.ensures,
     )
-    (told_at_lem a.count a.top a.o1 a.o2 a.o3 c.requires a.number a.offset)
+    (told_at_lem a.units.count a.units.top a.units.o1 a.units.o2 a.units.o3 c.requires (number_of a.fault.refusal) a.fault.offset)

@@ -1,18 +1,26 @@
--- The number of what explain answers, and its entries (proofs/Entries). `called` is where it has answered.
-use mathlib.Core.Path.{◌≡◌, ap}
-use borrow.Author.Rules.{rules}
+-- The number of what explain answers, and its entries (proofs/Entries).
+use Rattle.std.proofs.Common.{◌≡◌, refl, ap, ◌∙◌, List, ◌∷◌, ◌++◌, rules, ℕ, get_or}
+use Rattle.std.proofs.lemmas.List.{length-map}
+use Rattle.std.specs.Prelude.{None}
 use Rattle.cdf_unit_prefix.specs.Layout.{layout_for}
 use Rattle.cdf_explain_spec.specs.Why.{why_of}
-use Rattle.cdf_explain.specs.Numbers.{explained_by}
-use Rattle.cdf_explain.specs.declared.Explained.{Explained}
-use Rattle.cdf_explain_c.proofs.Entries.{written_is}
+use Rattle.cdf_explain.specs.Numbers.{ExplainedNumbers, numbers_of, numbers_told, explained_by}
+use Rattle.cdf_explain_c.proofs.Entries.{entries, units_written, written_is}
 use Rattle.cdf_explain_c.proofs.cdf_explain.Goals as goal
+
+pub returns-in_default-clause-answer : goal.returns-in_default-clause-answer
+returns-in_default-clause-answer c =
+    written_is (why_of (layout_for c.args.s.now) c.args.s.now) (numbers_told None) (rw c.in_default.is at c.explain.ensures.is) refl refl
 
 pub returns : goal.returns
 unfolding explained_by
 returns c =
-    let s = c.args.s.now in
-    let why = why_of (layout_for s) s in
-    let told = c.explain-told in
-    let is : told.result ≡ explained_by why = told.ensures.is in
-    record { number = ap (λ (e : Explained). e.number) is; answer = written_is why told.result is (search rules) (search rules) }
+    let why = why_of (layout_for c.args.s.now) c.args.s.now in
+    let told = c.in-Some.told in
+    let is : numbers_of told ≡ explained_by why = c.in-Some.ensures.is in
+    let rest : List ℕ = told.choices.count ∷ entries 14 (λ i. get_or told.choices.ids i 0) in
+    record {
+      number = ap (λ (e : ExplainedNumbers). e.number) is;
+      answer = ap (λ us. told.offset ∷ told.depth ∷ (us ++ rest)) (units_written told.units)
+          ∙ written_is why (numbers_of told) is (rw length-map (search rules)) (search rules);
+    }

@@ -1,10 +1,6 @@
 -- The lines that there is room for are compared, and not their bytes.
-use mathlib.Core.Path.{◌≡◌, refl, sym}
-use mathlib.Core.Bool.{Bool, true, false}
-use Prim.Native.Nat.{ℕ, ◌-◌, ◌/◌, ◌≤◌}
-use native.Mathlib.Omega.{arith}
-use borrow.Author.Tests.{leb-true, leb-false, le-leb, lt-leb}
-use lib.Dec.{leb}
+use Rattle.std.proofs.Common.{◌≡◌, refl, sym, Bool, true, false, ℕ, ◌-◌, ◌/◌, ◌≤◌, arith, leb-true, leb-false, le-leb, leb}
+use Rattle.std.proofs.lemmas.Bool.{lt-leb}
 use Rattle.cdf_listing_spec.specs.Claims.{room_by}
 use Rattle.cdf_listing.specs.Written.{any_fits}
 use Rattle.cdf_listing.proofs.any_fits.Goals as goal

@@ -1,7 +1,5 @@
 -- Where not every text fits, the pass that only counts tells the length of this one.
-use mathlib.Core.Path.{ap, sym, ◌∙◌}
-use native.Mathlib.Nat.{zero-add}
-use lib.Dec.{leb}
+use Rattle.std.proofs.Common.{ap, sym, ◌∙◌, zero-add, leb}
 use Rattle.cdf_listing.proofs.Filled.{ample}
 use Rattle.cdf_listing.proofs.text_fits.Goals as goal
 

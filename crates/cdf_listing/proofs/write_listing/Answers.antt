@@ -1,5 +1,5 @@
 -- The text is put into the buffer once it is known to fit.
-use mathlib.Core.Path.{sym, ◌∙◌}
+use Rattle.std.proofs.Common.{sym, ◌∙◌}
 use Rattle.cdf_unit_prefix.specs.Layout.{layout_of}
 use Rattle.cdf_unit_prefix.specs.declared.Edition.TheVariants.{First}
 use Rattle.cdf_listing_spec.specs.Text.{listing_text}
@@ -15,5 +15,5 @@ returns-then-not-text_fits c =
 pub returns : goal.returns
 returns c =
     let all = filled (listing_text (layout_of First) c.args.s.now) c.args.buffer.now
-    (sym c.text_fits.ensures ∙ c.if-not-text_fits.false) c.put_listing-length.ensures in
+    (sym c.text_fits.ensures ∙ c.if-not-text_fits.false) c.put_listing.ensures in
     record { is = all.0; bytes = all.1 }

@@ -1,4 +1,4 @@
-use native.Mathlib.Omega.{arith}
+use Rattle.std.proofs.Common.{arith}
 use Rattle.cdf_listing_spec.proofs.Digits.{decimal_digit, decimal_more}
 use Rattle.cdf_listing_lines.proofs.Putting.{put_both, put_length, room_first, room_then}
 use Rattle.cdf_listing_lines.proofs.+put_decimal.Goals as goal

@@ -1,6 +1,4 @@
-use mathlib.Core.Path.{sym, ◌∙◌}
-use native.Mathlib.Omega.{arith}
-use borrow.Author.Rules.{rules}
+use Rattle.std.proofs.Common.{sym, ◌∙◌, arith, rules}
 use lib.Seq.{set_out}
 use Rattle.cdf_listing_lines.proofs.Putting.{put_length}
 use Rattle.cdf_listing_lines.proofs.put_byte.Goals as goal

@@ -1,6 +1,5 @@
 -- A call is named by what it puts: `columns`, `size`, `feed`.
-use mathlib.Core.List.{[], ◌∷◌, ◌++◌}
-use native.Mathlib.Omega.{arith}
+use Rattle.std.proofs.Common.{[], ◌∷◌, ◌++◌, arith}
 use Rattle.cdf_listing_spec.specs.Decimal.{decimal}
 use Rattle.cdf_listing_spec.specs.Text.{columns}
 use Rattle.cdf_listing_lines.specs.Put.{Room}

@@ -1,5 +1,5 @@
 -- A call is named by what it puts: `ok`, `units`, `feed`.
-use native.Mathlib.Omega.{arith}
+use Rattle.std.proofs.Common.{arith}
 use Rattle.cdf_listing_spec.specs.Text.{ok_line}
 use Rattle.cdf_listing_lines.specs.Put.{Room}
 use Rattle.cdf_listing_lines.proofs.Putting.{put_both, room_first, room_then}

@@ -9,7 +9,7 @@ use Rattle.cdf_listing_program.proofs.list.Goals as goal
 
 pub returns : goal.returns
 returns c =
-    let written = c.write_listing-written in
-    let whole = fitted (listing_text (layout_of First) c.args.s.now) c.args.text.now _ written.result
-    (omega (arith, proved.short c.args.s.now c.requires.0)) written.ensures.is written.ensures.bytes in
+    let written = c.write_listing in
+    let whole = fitted (listing_text (layout_of First) c.args.s.now) c.args.text.now _ written.result _
+    (omega (arith, proved.short c.args.s.now c.requires.0)) written.ensures.is written.ensures.bytes c.unwrap_or.ensures in
     record { counts = whole.0; is = whole.1 }

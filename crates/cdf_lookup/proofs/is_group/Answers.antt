@@ -1,8 +1,5 @@
--- By the unit that the start hands out.
-use Rattle.cdf_reader.specs.View.{reply_of}
-use Rattle.cdf_lookup_search.proofs.Rooted.{group_is}
+-- By what the start hands out.
 use Rattle.cdf_lookup.proofs.is_group.Goals as goal
 
 pub returns : goal.returns
-returns c =
-    group_is _ c.args.s.now (reply_of c.first-a.result) c.first-a.ensures.is
+returns c = c.is_group.ensures _ c.args.s.now c.first.ensures

@@ -1,62 +1,72 @@
 -- By the stages of the definition: both checks, the roots, and then the values.
-use mathlib.Core.Path.{◌≡◌, refl, ◌∙◌}
+use Rattle.std.proofs.Common.{arith}
+use Rattle.std.proofs.lemmas.Result.{err_from_is_err_and}
 use Rattle.cdf_check.proofs.Exact.{bytes_of}
-use Rattle.cdf_lookup_spec.specs.Find.{query, refusal, or_else}
-use Rattle.cdf_lookup.specs.Answers.{due}
-use Rattle.cdf_lookup.proofs.Deciding.{by_first, by_second, by_roots, by_values, of_first, of_second, of_neither}
+use Rattle.cdf_lookup_spec.specs.Told.{query_of}
+use Rattle.cdf_lookup.proofs.Deciding.{by_first, by_second, by_roots, of_first, of_second, of_neither}
 use Rattle.cdf_lookup.proofs.lookup_place.Goals as goal
 
-pub returns-then-one-ne0-clause-is : goal.returns-then-one-ne0-clause-is
-returns-then-one-ne0-clause-is c =
+pub returns-in_err-one-clause-is : goal.returns-in_err-one-clause-is
+returns-in_err-one-clause-is c =
     let a = c.args in
-    let q = query a.template.now a.kind a.key.now a.field.now in
-    c.refused.ensures ∙ by_first a.first.now a.second.now q c.walk-one.result _ c.walk-one.ensures.is refl c.if-one-ne0.true
+    let q = query_of a.asked in
+    let p = err_from_is_err_and c.from_residual.result c.from_residual.ensures.1 in
+    rw (p.1, p.2) (by_first a.first.now a.second.now q c.in_err-one.field-0.0 c.in_err-one.ensures.is)
 
-pub returns-then-not-accepted-clause-is : goal.returns-then-not-accepted-clause-is
-returns-then-not-accepted-clause-is c =
+pub returns-in_err-two-clause-is : goal.returns-in_err-two-clause-is
+returns-in_err-two-clause-is c =
     let a = c.args in
-    let q = query a.template.now a.kind a.key.now a.field.now in
-    c.refused-then-not-accepted.ensures
-    ∙ by_second a.first.now a.second.now q c.walk-one.result c.walk-two.result c.walk-one.ensures.is c.walk-two.ensures.is
-    c.if-one-ne0.false c.if-not-accepted.true
+    let q = query_of a.asked in
+    let p = err_from_is_err_and c.from_residual-in_err-two.result c.from_residual-in_err-two.ensures.1 in
+    rw (p.1, p.2)
+    (by_second a.first.now a.second.now q c.in_ok-one.one c.in_ok-one.ensures.is c.in_err-two.field-0.0 c.in_err-two.ensures.is)
 
 pub returns-then-not-grouped-clause-is : goal.returns-then-not-grouped-clause-is
 returns-then-not-grouped-clause-is c =
     let a = c.args in
-    let q = query a.template.now a.kind a.key.now a.field.now in
-    c.refused-then-not-grouped.ensures
-    ∙ by_roots a.first.now a.second.now q c.walk-one.result c.walk-two.result c.walk-one.ensures.is c.walk-two.ensures.is
-    c.if-one-ne0.false c.if-not-accepted.false c.if-not-grouped.true
+    let q = query_of a.asked in
+    rw c.into.ensures
+    (by_roots a.first.now a.second.now q c.in_ok-one.one c.in_ok-one.ensures.is c.in_ok-two.two c.in_ok-two.ensures.is c.if-not-grouped.true)
 
-pub returns-in-At-clause-is : goal.returns-in-At-clause-is
-returns-in-At-clause-is c =
-    let a = c.args in
-    let q = query a.template.now a.kind a.key.now a.field.now in
-    let one = c.walk-one.result in
-    let two = c.walk-two.result in
-    let settled : due a.first a.second a.template a.kind a.key a.field ≡ or_else 1 one.value (or_else 2 two.value (refusal 15 0)) =
-    by_values a.first.now a.second.now q one two c.walk-one.ensures.is c.walk-two.ensures.is c.if-one-ne0.false c.if-not-accepted.false
-    (bytes_of a.first.now (λ i. (c.type_inv.first i).fits)) (bytes_of a.second.now (λ i. (c.type_inv.second i).fits)) c.if-not-grouped.false in
-    c.found_in.ensures ∙ of_first _ _ _ settled _ _ c.in-At.is
+pub found_in-requires : goal.found_in-requires
+found_in-requires c = (c.in_ok-one.ensures.placed _ _ c.in-Some-default.is-0).0
 
-pub returns-in-At-other-clause-is : goal.returns-in-At-other-clause-is
-returns-in-At-other-clause-is c =
-    let a = c.args in
-    let q = query a.template.now a.kind a.key.now a.field.now in
-    let one = c.walk-one.result in
-    let two = c.walk-two.result in
-    let settled : due a.first a.second a.template a.kind a.key a.field ≡ or_else 1 one.value (or_else 2 two.value (refusal 15 0)) =
-    by_values a.first.now a.second.now q one two c.walk-one.ensures.is c.walk-two.ensures.is c.if-one-ne0.false c.if-not-accepted.false
-    (bytes_of a.first.now (λ i. (c.type_inv.first i).fits)) (bytes_of a.second.now (λ i. (c.type_inv.second i).fits)) c.if-not-grouped.false in
-    c.found_in-in-At-other.ensures ∙ of_second _ _ _ settled c.in-Missing.is _ _ c.in-At-other.is
+pub found_in-requires-in-None-Some : goal.found_in-requires-in-None-Some
+found_in-requires-in-None-Some c = (c.in_ok-two.ensures.placed _ _ c.in-None-Some.is-1).0
 
-pub returns-in-Missing-other-clause-is : goal.returns-in-Missing-other-clause-is
-returns-in-Missing-other-clause-is c =
+pub returns-in-Some-default-clause-is : goal.returns-in-Some-default-clause-is
+returns-in-Some-default-clause-is c =
     let a = c.args in
-    let q = query a.template.now a.kind a.key.now a.field.now in
-    let one = c.walk-one.result in
-    let two = c.walk-two.result in
-    let settled : due a.first a.second a.template a.kind a.key a.field ≡ or_else 1 one.value (or_else 2 two.value (refusal 15 0)) =
-    by_values a.first.now a.second.now q one two c.walk-one.ensures.is c.walk-two.ensures.is c.if-one-ne0.false c.if-not-accepted.false
-    (bytes_of a.first.now (λ i. (c.type_inv.first i).fits)) (bytes_of a.second.now (λ i. (c.type_inv.second i).fits)) c.if-not-grouped.false in
-    c.refused-in-Missing-other.ensures ∙ of_neither _ _ _ settled c.in-Missing.is c.in-Missing-other.is
+    let q = query_of a.asked in
+    rw c.found_in.ensures
+    (of_first a.first.now a.second.now q c.in_ok-one.one c.in_ok-one.ensures.is c.in_ok-two.two c.in_ok-two.ensures.is
+    (bytes_of a.first.now (λ i. (c.type_inv.first i).fits)) (bytes_of a.second.now (λ i. (c.type_inv.second i).fits)) c.if-not-grouped.false
+    c.in-Some-default.value c.in-Some-default.is-0)
+
+pub returns-in-Some-default-clause-within : goal.returns-in-Some-default-clause-within
+returns-in-Some-default-clause-within c =
+    let lies = c.in_ok-one.ensures.placed _ _ c.in-Some-default.is-0 in
+    rw c.found_in.ensures (omega (arith, lies.0, lies.1))
+
+pub returns-in-None-Some-clause-is : goal.returns-in-None-Some-clause-is
+returns-in-None-Some-clause-is c =
+    let a = c.args in
+    let q = query_of a.asked in
+    rw c.found_in-in-None-Some.ensures
+    (of_second a.first.now a.second.now q c.in_ok-one.one c.in_ok-one.ensures.is c.in_ok-two.two c.in_ok-two.ensures.is
+    (bytes_of a.first.now (λ i. (c.type_inv.first i).fits)) (bytes_of a.second.now (λ i. (c.type_inv.second i).fits)) c.if-not-grouped.false
+    c.in-None-Some.value c.in-None-Some.is-0 c.in-None-Some.is-1)
+
+pub returns-in-None-Some-clause-within : goal.returns-in-None-Some-clause-within
+returns-in-None-Some-clause-within c =
+    let lies = c.in_ok-two.ensures.placed _ _ c.in-None-Some.is-1 in
+    rw c.found_in-in-None-Some.ensures (omega (arith, lies.0, lies.1))
+
+pub returns-in-None-None-clause-is : goal.returns-in-None-None-clause-is
+returns-in-None-None-clause-is c =
+    let a = c.args in
+    let q = query_of a.asked in
+    rw c.into-in-None-None.ensures
+    (of_neither a.first.now a.second.now q c.in_ok-one.one c.in_ok-one.ensures.is c.in_ok-two.two c.in_ok-two.ensures.is
+    (bytes_of a.first.now (λ i. (c.type_inv.first i).fits)) (bytes_of a.second.now (λ i. (c.type_inv.second i).fits)) c.if-not-grouped.false
+    c.in-None-None.is-0 c.in-None-None.is-1)

@@ -1,5 +1,5 @@
 -- By the state: what the tests say is what the definition asks.
-use borrow.Author.Tests.{lt-ltb, le-ltb}
+use Rattle.std.proofs.Common.{lt-ltb, le-ltb}
 use Rattle.cdf_lookup_spec.specs.Search.{advance_of}
 use Rattle.cdf_lookup_search.proofs.advance.Goals as goal
 
@@ -23,7 +23,6 @@ returns-then-holds-2 c =
       lt-ltb _ _ c.if-u-end.false,
       ← c.holds-in-Inside.ensures,
       c.if-holds-2.true,
-      ← c.value_of.ensures,
     )
 
 pub returns-else-holds : goal.returns-else-holds

@@ -1,6 +1,5 @@
 -- As of two (proofs/Holding).
-use mathlib.Core.Path.{sym, ◌∙◌}
-use borrow.Author.Tests.{not-true, not-false}
+use Rattle.std.proofs.Common.{sym, ◌∙◌}
 use Rattle.cdf_unit_prefix.specs.Layout.{layout_of}
 use Rattle.cdf_reader_numbers.specs.Numbers.{place_from}
 use Rattle.cdf_reader_open_numbers.proofs.Holding.{four}
@@ -10,11 +9,11 @@ pub returns-then-not-is_fourfold : goal.returns-then-not-is_fourfold
 returns-then-not-is_fourfold c =
     let kinds = c.is_fourfold in
     let a = c.args in
-    (four (layout_of a.edition) a.n a.most (place_from a.p.now)).0 (sym kinds.ensures ∙ not-true kinds.result c.if-not-is_fourfold.true-raw)
+    (four (layout_of a.edition) a.n a.most (place_from a.p.now)).0 (sym kinds.ensures ∙ c.if-not-is_fourfold.true)
 
 pub returns : goal.returns
 returns c =
     let kinds = c.is_fourfold in
     let a = c.args in
     rw (c.is_past-3.ensures, c.is_past-2.ensures, c.is_past.ensures)
-    ((four (layout_of a.edition) a.n a.most (place_from a.p.now)).1 (sym kinds.ensures ∙ not-false kinds.result c.if-not-is_fourfold.false-raw))
+    ((four (layout_of a.edition) a.n a.most (place_from a.p.now)).1 (sym kinds.ensures ∙ c.if-not-is_fourfold.false))

@@ -1,66 +1,24 @@
--- The loop keeps `Running` (cdf_reader_replay_spec/proofs/Replaying), and the row is 01's.
-use mathlib.Core.Path.{refl, sym, ◌∙◌}
-use native.Mathlib.Omega.{arith}
-use lib.ListN.{length-drop}
-use Rattle.cdf_unit_table.proofs.Parts.{rest}
-use Rattle.cdf_unit_data.specs.Standing.{name_row}
-use Rattle.cdf_reader_replay_spec.proofs.Replaying.{long, fits_more, begun, on, finished, ended_unknown, ended_all}
+-- The loop keeps `Running` of the codes as the reader hears them (cdf_reader_replay_spec/proofs/Hearing).
+use Rattle.std.proofs.Common.{map, refl, sym, ◌∙◌}
+use Rattle.cdf_reader_replay_spec.proofs.Replaying.{begun}
+use Rattle.cdf_reader_replay_spec.proofs.Hearing.{ends, stops, goes}
 use Rattle.cdf_reader_replay.proofs.run.Goals as goal
 
 pub loop-k-init : goal.loop-k-init
-unfolding name_row
-loop-k-init c =
-    let a = c.args in
-    (rw c.no_cursor-c.ensures (begun a.s.now a.calls.now a.log.now), refl)
+loop-k-init g c = rw c.no_cursor-c.ensures (begun c.args.s.now (map g.T.Turns.heard c.args.calls.now) c.args.log.now)
 
-pub shape_of-log-then-not-is_known : goal.shape_of-log-then-not-is_known
-shape_of-log-then-not-is_known c = long c.args.s.now c.args.calls.now c.args.log.now c.requires c.loop-k.invariant.0
-
-pub shape_of-log : goal.shape_of-log
-shape_of-log c = long c.args.s.now c.args.calls.now c.args.log.now c.requires c.loop-k.invariant.0
-
-pub returns-then-not-is_known : goal.returns-then-not-is_known
-returns-then-not-is_known c =
-    let a = c.args in
-    let inv = c.loop-k.invariant.0 in
-    let all = finished a.s.now a.calls.now a.log.now inv
-    (ended_unknown a.s.now a.calls.now a.log.now inv c.loop-k-test.true (sym c.is_known.ensures ∙ c.if-not-is_known.true)) in
+pub returns-in_default : goal.returns-in_default
+returns-in_default g c =
+    let all = stops g.T.Turns.heard _ _ _ c.loop-k.invariant c.loop-k-test.true (sym c.call_of.ensures ∙ c.in_default.is) in
     record { count = all.0; written = all.1 }
 
-pub turn-o-requires : goal.turn-o-requires
-turn-o-requires c = (c.loop-k.invariant.0.held, c.loop-k.invariant.1, c.edition_of-edition.ensures)
-
-pub slice_bounds-write_entry-start : goal.slice_bounds-write_entry-start
-slice_bounds-write_entry-start c =
-    let a = c.args in
-    let room = fits_more a.s.now a.calls.now a.log.now c.requires c.loop-k.invariant.0 c.loop-k-test.true in
-    omega (arith, room)
-
-pub write_entry-requires : goal.write_entry-requires
-write_entry-requires c =
-    let a = c.args in
-    let room = fits_more a.s.now a.calls.now a.log.now c.requires c.loop-k.invariant.0 c.loop-k-test.true in
-    rw (rest c.loop-k.at c.loop-k.log, length-drop) (omega (arith, room))
-
-pub overflow_add-at : goal.overflow_add-at
-overflow_add-at c =
-    let a = c.args in
-    let room = fits_more a.s.now a.calls.now a.log.now c.requires c.loop-k.invariant.0 c.loop-k-test.true in
-    omega (arith, room)
-
 pub loop-k-preserved : goal.loop-k-preserved
-loop-k-preserved c =
-    let a = c.args in
-    let inv = c.loop-k.invariant in (
-      on a.s.now a.calls.now a.log.now inv.0 c.loop-k-test.true (sym c.is_known.ensures ∙ c.if-not-is_known.false) _ c.turn-o.result
-          _ (rw c.call_by-call.ensures at c.turn-o.ensures.is) c.turn-o.ensures.held c.part_of-part.ensures
-          c.write_entry.ensures,
-      inv.1,
-    )
+loop-k-preserved g c =
+    rw c.after-c.ensures
+    (goes g.T.Turns.heard _ _ _ c.loop-k.invariant c.loop-k-test.true c.in-Some.call (sym c.call_of.ensures ∙ c.in-Some.is) c.turn-told.result _
+    c.turn-told.ensures.is c.turn-told.ensures.held refl _ c.write_entry.ensures)
 
 pub returns : goal.returns
-returns c =
-    let a = c.args in
-    let inv = c.loop-k.invariant.0 in
-    let all = finished a.s.now a.calls.now a.log.now inv (ended_all a.s.now a.calls.now a.log.now inv c.loop-k-test.false) in
+returns g c =
+    let all = ends g.T.Turns.heard _ _ _ c.loop-k.invariant c.loop-k-test.false in
     record { count = all.0; written = all.1 }

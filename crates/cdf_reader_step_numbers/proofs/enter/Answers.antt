@@ -1,8 +1,6 @@
--- Each return by its law (cdf_reader_cursor/proofs/Entered). `passed` is the place past the last test, `first` the one past
--- the unit's first state, `ranked` the one past the rank of the innermost unit that is left.
-use Prim.Native.Nat.{ℕ}
-use mathlib.Core.Path.{sym, ap, ◌∙◌}
-use mathlib.Core.List.{List}
+-- Each return by its law (cdf_reader_cursor/proofs/Entered), by the unit's first state and how many units are left open.
+use Rattle.std.proofs.Common.{ℕ, refl, sym, ap, ◌∙◌, List, arith}
+use Rattle.cdf_unit_table.proofs.Options.{none_told, some_told}
 use Rattle.cdf_unit_list.specs.Stack.{with_state}
 use Rattle.cdf_reader_cursor.specs.Entering.{entering}
 use Rattle.cdf_reader_cursor.specs.declared.Outcome.{Outcome}
@@ -16,48 +14,47 @@ use Rattle.cdf_reader_step_numbers.proofs.enter.Goals as goal
 abbrev numbers : Outcome → List ℕ
 numbers o = numbers_of (place_with o.cursor)
 
-pub returns-then-first-eq0 : goal.returns-then-first-eq0
+pub returns-in_default : goal.returns-in_default
 unfolding with_state
-returns-then-first-eq0 c =
+returns-in_default c =
     let a = c.args in
     let p = c.place_from-p.result in
-    let state = c.first_state-first.ensures in
     c.write_place.ensures
     ∙ rw c.rank_at-around.ensures
-    (sym (ap numbers (none (cursor_of p) a.count a.top a.handed a.next _ state c.if-first-eq0.true)))
-    ∙ ap (λ (q : Place). numbers (entering (cursor_of q) a.count a.top a.handed a.next)) c.place_from-p.ensures
+    (sym (ap numbers (none (cursor_of p) a.left.count a.left.top a.handed a.next _ refl (none_told _ (sym c.first_state.ensures ∙ c.in_default.is)))))
+    ∙ ap (λ (q : Place). numbers (entering (cursor_of q) a.left.count a.left.top a.handed a.next)) c.place_from-p.ensures
 
-pub returns-then-count-eq1 : goal.returns-then-count-eq1
+pub returns-in-1 : goal.returns-in-1
 unfolding with_state
-returns-then-count-eq1 c =
+returns-in-1 c =
     let a = c.args in
     let p = c.place_from-p.result in
-    let state = c.first_state-first.ensures in
+    let told = some_told _ _ (sym c.first_state.ensures ∙ c.in-Some.is) in
     c.write_inside.ensures
-    ∙ rw (state, c.rank_at-around.ensures)
-    (sym (ap numbers (one (cursor_of p) a.count a.top a.handed a.next _ state c.if-first-eq0.false c.if-count-eq1.true)))
-    ∙ ap (λ (q : Place). numbers (entering (cursor_of q) a.count a.top a.handed a.next)) c.place_from-p.ensures
+    ∙ rw (told.0, c.rank_at-around.ensures)
+    (sym (ap numbers (one (cursor_of p) a.left.count a.left.top a.handed a.next _ told.0 told.1 c.in-1.is)))
+    ∙ ap (λ (q : Place). numbers (entering (cursor_of q) a.left.count a.left.top a.handed a.next)) c.place_from-p.ensures
 
-pub returns-then-count-eq2 : goal.returns-then-count-eq2
+pub returns-in-2 : goal.returns-in-2
 unfolding with_state
-returns-then-count-eq2 c =
+returns-in-2 c =
     let a = c.args in
     let p = c.place_from-p.result in
-    let state = c.first_state-first.ensures in
-    c.write_inside-then-count-eq2.ensures
-    ∙ rw (state, c.rank_at-around.ensures)
-    (sym (ap numbers (two (cursor_of p) a.count a.top a.handed a.next _ state
-    c.if-first-eq0.false c.if-count-eq1.false c.if-count-eq2.true)))
-    ∙ ap (λ (q : Place). numbers (entering (cursor_of q) a.count a.top a.handed a.next)) c.place_from-p.ensures
+    let told = some_told _ _ (sym c.first_state.ensures ∙ c.in-Some.is) in
+    c.write_inside-in-2.ensures
+    ∙ rw (told.0, c.rank_at-around.ensures)
+    (sym (ap numbers (two (cursor_of p) a.left.count a.left.top a.handed a.next _ told.0
+    told.1 (λ z. omega arith) c.in-2.is)))
+    ∙ ap (λ (q : Place). numbers (entering (cursor_of q) a.left.count a.left.top a.handed a.next)) c.place_from-p.ensures
 
-pub returns : goal.returns
+pub returns-in_default-count : goal.returns-in_default-count
 unfolding with_state
-returns c =
+returns-in_default-count c =
     let a = c.args in
     let p = c.place_from-p.result in
-    let state = c.first_state-first.ensures in
-    c.write_inside-2.ensures
-    ∙ rw (state, c.rank_at-around.ensures)
-    (sym (ap numbers (more (cursor_of p) a.count a.top a.handed a.next _ state
-    c.if-first-eq0.false c.if-count-eq1.false c.if-count-eq2.false)))
-    ∙ ap (λ (q : Place). numbers (entering (cursor_of q) a.count a.top a.handed a.next)) c.place_from-p.ensures
+    let told = some_told _ _ (sym c.first_state.ensures ∙ c.in-Some.is) in
+    c.write_inside-in_default-count.ensures
+    ∙ rw (told.0, c.rank_at-around.ensures)
+    (sym (ap numbers (more (cursor_of p) a.left.count a.left.top a.handed a.next _ told.0
+    told.1 (λ z. omega arith) (λ z. omega arith))))
+    ∙ ap (λ (q : Place). numbers (entering (cursor_of q) a.left.count a.left.top a.handed a.next)) c.place_from-p.ensures

@@ -1,5 +1,5 @@
 -- The numbers in their order.
-use mathlib.Core.Path.{refl}
+use Rattle.std.proofs.Common.{refl}
 use Rattle.cdf_reader_step_numbers.proofs.hand.Goals as goal
 
 pub returns : goal.returns

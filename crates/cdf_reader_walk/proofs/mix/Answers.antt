@@ -1,5 +1,5 @@
 -- The operations are those of the definition.
-use mathlib.Core.Path.{refl}
+use Rattle.std.proofs.Common.{refl}
 use Rattle.cdf_reader_walk.proofs.mix.Goals as goal
 
 pub returns : goal.returns

@@ -1,46 +1,27 @@
--- Up to i none is alike.
-use mathlib.Core.Path.{◌≡◌, sym, ◌∙◌}
-use native.Mathlib.Omega.{arith}
-use Rattle.cdf_unit_prefix.specs.Layout.{layout_for}
-use Rattle.cdf_resolve.proofs.Finding.{unlike_on}
+-- What is found from here on is what is found.
+use Rattle.std.proofs.Common.{sym, ◌∙◌, add-one, drop_of_length-le, drop-cons}
+use Rattle.cdf_resolve.specs.Holding.{rank_in}
+use Rattle.cdf_resolve.specs.declared.Template.{Template}
 use Rattle.cdf_resolve.proofs.find.Goals as goal
 
-pub loop-i-init : goal.loop-i-init
-loop-i-init c = (omega arith, λ j h. absurd (omega arith))
+abbrev blank : Template
+blank = record { start = 0; own = 0; rank = 0 }
 
-pub bounds-starts-i : goal.bounds-starts-i
-bounds-starts-i c = omega (arith, c.requires.1.first)
-
-pub bounds-owns-i : goal.bounds-owns-i
-bounds-owns-i c = omega (arith, c.requires.1.second)
-
-pub alike-requires : goal.alike-requires
-alike-requires c = let pre = c.requires in (pre.0, pre.1.each _ (omega arith), pre.2)
+pub loop-t-preserved : goal.loop-t-preserved
+unfolding rank_in
+loop-t-preserved c =
+    let i = c.loop-t.invariant in
+    let head = drop-cons c.args.held.now c.loop-t.t-index blank c.loop-t-test.true in
+    let lies = rw head at i.lies in
+    record { lies = rw add-one lies.1; rest = rw add-one (rw (head, sym c.alike.ensures ∙ c.if-alike.false) at i.rest) }
 
 pub returns-then-alike : goal.returns-then-alike
+unfolding rank_in
 returns-then-alike c =
-    record { within = c.loop-i.invariant.0; before = c.loop-i.invariant.1; here = λ h. sym c.alike.ensures ∙ c.if-alike.true }
-
-pub overflow_add-i : goal.overflow_add-i
-overflow_add-i c = omega arith
-
-pub loop-i-smaller : goal.loop-i-smaller
-loop-i-smaller c = omega arith
-
-pub loop-i-preserved : goal.loop-i-preserved
-loop-i-preserved c =
-    let a = c.args in (
-      omega (arith, c.loop-i-test.true),
-      unlike_on (layout_for a.s.now) a.s.now a.starts.now a.owns.now a.u c.loop-i.i c.loop-i.invariant.1
-          (sym c.alike.ensures ∙ c.if-alike.false),
-    )
+    let head = drop-cons c.args.held.now c.loop-t.t-index blank c.loop-t-test.true in
+    rw (head, sym c.alike.ensures ∙ c.if-alike.true) at c.loop-t.invariant.rest
 
 pub returns : goal.returns
+unfolding rank_in
 returns c =
-    let a = c.args in
-    let over : c.loop-i.i ≡ a.count = omega (arith, c.loop-i.invariant.0, c.loop-i-test.false) in
-    record {
-      within = omega arith;
-      before = λ j h. c.loop-i.invariant.1 j (omega (arith, over, h));
-      here = λ h. absurd (omega arith);
-    }
+    rw (drop_of_length-le c.args.held.now (c.loop-t-test.false)) at c.loop-t.invariant.rest

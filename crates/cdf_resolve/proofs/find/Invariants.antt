@@ -1,11 +1,11 @@
--- Up to i none is alike.
-use Prim.Native.Nat.{◌-◌, ◌≤◌}
+-- What is found from here on is what is found.
+use Rattle.std.specs.Prelude.{◌≡◌, drop, length}
 use Rattle.cdf_unit_prefix.specs.Layout.{layout_for}
-use Rattle.cdf_resolve.proofs.Finding.{Unlike}
+use Rattle.cdf_resolve.specs.Holding.{Lies, rank_in}
 use Rattle.cdf_resolve.proofs.find.Given as goal
 
-abbrev pub invariant-loop-i : goal.invariant-loop-i
-invariant-loop-i l = (l.i ≤ l.count) × Unlike (layout_for l.s) l.s l.starts l.owns l.u l.i
-
-abbrev pub decreases-loop-i : goal.decreases-loop-i
-decreases-loop-i l = l.count - l.i
+abbrev pub invariant-loop-t : goal.invariant-loop-t
+invariant-loop-t l = record {
+  lies : Lies (layout_for l.s) (length l.s) (drop l.t-index l.held);
+  rest : rank_in (layout_for l.s) l.s l.u (drop l.t-index l.held) ≡ rank_in (layout_for l.s) l.s l.u l.held;
+}

@@ -1,42 +1,40 @@
 -- The root, then what the first pass tells, then what the second writes.
-use mathlib.Core.Path.{sym, ◌∙◌}
-use native.Mathlib.Omega.{arith}
-use borrow.Author.Tests.{eq-eqb, ne_eqb}
-use Rattle.cdf_reader.specs.View.{reply_of}
-use Rattle.cdf_lookup_search.proofs.Rooted.{group_is}
+use Rattle.std.proofs.Common.{refl, sym, ◌∙◌, arith}
+use Rattle.std.specs.Prelude.{Ok, Err}
+use Rattle.cdf_refusal.proofs.Apart.{refuses}
+use Rattle.cdf_resolve_tally.specs.Told.{answer_of}
 use Rattle.cdf_resolve.proofs.Answering.{by_refusal, refused_root, by_first, by_second}
 use Rattle.cdf_resolve.proofs.resolve_accepted.Goals as goal
 
-pub returns-then-root-ne-ER_GROUP : goal.returns-then-root-ne-ER_GROUP
-returns-then-root-ne-ER_GROUP c =
+pub returns-then-not-is_group : goal.returns-then-not-is_group
+returns-then-not-is_group c =
     let s = c.args.s.now in
     let list = c.args.list.now in
-    let other = sym (group_is _ s (reply_of c.first-a.result) c.first-a.ensures.is) ∙ ne_eqb _ _ c.if-root-ne-ER_GROUP.true in
-    let all = by_refusal _ s list 7 0 (refused_root _ s list c.requires other)
-    (λ z. omega arith) _ c.refused.ensures in
+    let other = sym (c.is_group.ensures _ s c.first.ensures) ∙ c.if-not-is_group.true in
+    let all = by_refusal _ s list 7 0 (refused_root _ s list c.requires other) (λ z. omega arith) _ (rw c.into.ensures) in
     record { is = all.0; ranks = all.1 }
 
 pub pass-t-requires : goal.pass-t-requires
 pass-t-requires c =
     let s = c.args.s.now in
-    (c.requires, sym (group_is _ s (reply_of c.first-a.result) c.first-a.ensures.is) ∙ eq-eqb _ _ c.if-root-ne-ER_GROUP.false)
+    (c.requires, sym (c.is_group.ensures _ s c.first.ensures) ∙ c.if-not-is_group.false)
 
-pub returns-then-answer-ne0 : goal.returns-then-answer-ne0
-returns-then-answer-ne0 c =
+pub returns-in_err-count-clause-ranks : goal.returns-in_err-count-clause-ranks
+returns-in_err-count-clause-ranks c =
     let s = c.args.s.now in
     let list = c.args.list.now in
-    let all = by_first _ s list c.pass-t.result c.told-answer.result c.told-answer.ensures c.pass-t.ensures.answer c.if-answer-ne0.true in
-    record { is = all.0; ranks = all.1 }
+    let fault = c.in_err-count.field-0.0 in
+    (by_first _ s list c.pass-t.result (answer_of (Err fault)) c.in_err-count.ensures c.pass-t.ensures.answer (refuses fault.refusal)).1
 
 pub pass-requires : goal.pass-requires
 pass-requires c =
     let s = c.args.s.now in
-    (c.requires, sym (group_is _ s (reply_of c.first-a.result) c.first-a.ensures.is) ∙ eq-eqb _ _ c.if-root-ne-ER_GROUP.false)
+    (c.requires, sym (c.is_group.ensures _ s c.first.ensures) ∙ c.if-not-is_group.false)
 
 pub returns : goal.returns
 returns c =
     let s = c.args.s.now in
     let list = c.args.list.now in
-    let all = by_second _ s list c.pass-t.result c.told-answer.result c.told-answer.ensures c.pass-t.ensures.answer
-    c.if-answer-ne0.false c.pass.result _ c.pass.ensures in
+    let all = by_second _ s list c.pass-t.result (answer_of (Ok c.in_ok-count.count)) c.in_ok-count.ensures c.pass-t.ensures.answer
+    refl c.pass.result _ c.pass.ensures in
     record { is = all.0; ranks = all.1 }

@@ -4,4 +4,4 @@ use Rattle.cdf_table_reader.proofs.table_first.Goals as goal
 
 pub returns : goal.returns
 unfolding entries
-returns c = record { is = c.first_in.ensures.is; kept = c.first_in.ensures.kept }
+returns c = c.first_in.ensures

@@ -1,9 +1,6 @@
 -- Each return by the count, or by how many of its bytes may stand there.
-use Prim.Native.Nat.{◌+◌, ◌-◌}
-use mathlib.Core.Path.{◌≡◌, refl, sym, ◌∙◌}
-use lib.ListN.{drop, get_or}
-use native.Mathlib.Omega.{arith}
-use borrow.Author.Tests.{le-leb, lt-leb, eq-eqb, ne_eqb}
+use Rattle.std.proofs.Common.{◌+◌, ◌-◌, ◌≡◌, refl, sym, ◌∙◌, drop, get_or, arith, le-leb, eq-eqb, ne_eqb}
+use Rattle.std.proofs.lemmas.Bool.{lt-leb}
 use Rattle.cdf_unit_table.proofs.Parts.{minus_one}
 use Rattle.cdf_unit_data.specs.Data.{name_by, spelled}
 use Rattle.cdf_unit_data.specs.Standing.{row_bytes}
@@ -29,8 +26,8 @@ returns-then-s-count c =
     (name_is _ _ c.if-s-eq0.false _ refl
     ∙ rw (le-leb 1 _ c.if-count-lt1.false, le-leb _ 32 c.if-count-gt32.false, lt-leb _ _ c.if-s-count.true))
 
-pub overflow_add-bad : goal.overflow_add-bad
-overflow_add-bad c =
+pub overflow_add-result : goal.overflow_add-result
+overflow_add-result c =
     let a = c.args in
     let s = a.s.now in
     omega (arith, front_short (row_bytes a.row.now) (1 + get_or s 0 0 - 1) (drop 1 s), c.name_front-front.ensures)
@@ -40,7 +37,8 @@ unfolding spelled
 returns-then-front-count c =
     let right_count : (let a = c.args in
     let s = a.s.now in
-    name_by (row_bytes a.row.now) s ≡ spelled (get_or s 0 0) c.name_front-front.result) = name_by_lem _ _ c.if-s-eq0.false _ refl c.if-count-lt1.false c.if-count-gt32.false c.if-s-count.false
+    name_by (row_bytes a.row.now) s ≡ spelled (get_or s 0 0) c.name_front-front.result) =
+    name_by_lem _ _ c.if-s-eq0.false _ refl c.if-count-lt1.false c.if-count-gt32.false c.if-s-count.false
     ∙ rw (← (simp minus_one at c.name_front-front.ensures)) in
     sym (right_count ∙ rw (eq-eqb _ _ c.if-front-count.true))
 
@@ -49,6 +47,7 @@ unfolding spelled
 returns-else-front-count c =
     let right_count : (let a = c.args in
     let s = a.s.now in
-    name_by (row_bytes a.row.now) s ≡ spelled (get_or s 0 0) c.name_front-front.result) = name_by_lem _ _ c.if-s-eq0.false _ refl c.if-count-lt1.false c.if-count-gt32.false c.if-s-count.false
+    name_by (row_bytes a.row.now) s ≡ spelled (get_or s 0 0) c.name_front-front.result) =
+    name_by_lem _ _ c.if-s-eq0.false _ refl c.if-count-lt1.false c.if-count-gt32.false c.if-s-count.false
     ∙ rw (← (simp minus_one at c.name_front-front.ensures)) in
     sym (right_count ∙ rw (ne_eqb _ _ c.if-front-count.false))

@@ -1,7 +1,6 @@
 -- The loop's invariant: every byte passed may stand in a name.
-use Prim.Native.Nat.{◌-◌}
-use native.Mathlib.Omega.{arith}
-use borrow.Author.Tests.{not-true, not-false}
+use Rattle.std.proofs.Common.{◌-◌, ◌≡◌, ◌∙◌, length, arith}
+use Rattle.std.proofs.lemmas.Bool.{not-true, not-false}
 use Rattle.cdf_unit_data.proofs.Names.{front_none, front_bad, begun, stopped, on, ended}
 use Rattle.cdf_unit_name.proofs.name_front.Goals as goal
 
@@ -24,9 +23,6 @@ returns-then-not-is_later c =
     stopped _ _ _ c.loop-i.invariant _ c.loop-i-test.true c.is_later.ensures
     (not-true c.is_later.result c.if-not-is_later.true-raw)
 
-pub overflow_add-i : goal.overflow_add-i
-overflow_add-i c = omega arith
-
 pub loop-i-smaller : goal.loop-i-smaller
 loop-i-smaller c = omega arith
 
@@ -36,4 +32,4 @@ loop-i-preserved c =
     (not-false c.is_later.result c.if-not-is_later.false-raw)
 
 pub returns : goal.returns
-returns c = ended _ _ _ c.loop-i.invariant c.loop-i-test.false
+returns c = let end : length c.args.s.now ≡ c.loop-i.i = omega arith in end ∙ ended _ _ _ c.loop-i.invariant c.loop-i-test.false

@@ -1,6 +1,5 @@
 -- The loop's invariant: every byte passed may stand in a name.
-use Prim.Native.Nat.{◌-◌}
-use lib.ListN.{length}
+use Rattle.std.proofs.Common.{◌-◌, length}
 use Rattle.cdf_unit_data.specs.Standing.{row_bytes}
 use Rattle.cdf_unit_data.proofs.Names.{Run}
 use Rattle.cdf_unit_name.proofs.name_front.Given as goal

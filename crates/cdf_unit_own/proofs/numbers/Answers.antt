@@ -1,6 +1,7 @@
 -- By the tests of the definition.
 use Rattle.cdf_unit_data.specs.Data.{numbers_of}
-use borrow.Author.Tests.{le-leb, lt-leb, eq-eqb, ne_eqb}
+use Rattle.std.proofs.Common.{le-leb, eq-eqb, ne_eqb}
+use Rattle.std.proofs.lemmas.Bool.{lt-leb}
 use Rattle.cdf_unit_own.proofs.numbers.Goals as goal
 
 pub returns-then-n-s : goal.returns-then-n-s

@@ -1,7 +1,5 @@
 -- Each arm by its rule; any other id has no own data, by a test over the kinds.
-use Prim.Native.Nat.{ℕ}
-use mathlib.Core.Path.{◌≡◌}
-use mathlib.Core.List.{List, [], ◌∷◌}
+use Rattle.std.proofs.Common.{ℕ, ◌≡◌, List, [], ◌∷◌}
 use Rattle.cdf_unit_table.specs.Ids.{member, kind_of}
 use Rattle.cdf_unit_table.proofs.Match.{each}
 use Rattle.cdf_unit_table.proofs.Others.{blank_else}

@@ -1,6 +1,7 @@
 -- By the test of the definition.
 use Rattle.cdf_unit_data.specs.Data.{value_from}
-use borrow.Author.Tests.{le-leb, lt-leb}
+use Rattle.std.proofs.Common.{le-leb}
+use Rattle.std.proofs.lemmas.Bool.{lt-leb}
 use Rattle.cdf_unit_own.proofs.value.Goals as goal
 
 pub returns-then-s-k : goal.returns-then-s-k

@@ -1,5 +1,5 @@
 -- By the definition.
-use mathlib.Core.Path.{refl}
+use Rattle.std.proofs.Common.{refl}
 use Rattle.cdf_unit_prefix.specs.Layout.{edition_of}
 use Rattle.cdf_unit_prefix.proofs.edition_of.Goals as goal
 

@@ -1,6 +1,6 @@
 -- The tests of the definition in its order.
 use Rattle.cdf_unit_prefix.specs.Rules.{head_of}
-use borrow.Author.Tests.{lt-ltb, le-ltb}
+use Rattle.std.proofs.Common.{lt-ltb, le-ltb}
 use Rattle.cdf_unit_prefix.proofs.head.Goals as goal
 
 pub returns-then-s-p : goal.returns-then-s-p
@@ -59,7 +59,6 @@ returns-then-not-is_known c =
       le-ltb _ _ c.if-length-p.false,
       ← c.length_fits.ensures,
       c.if-not-length_fits.false-raw,
-      ← c.wide-id.ensures,
       ← c.is_known.ensures,
       c.if-not-is_known.true-raw,
     )
@@ -76,8 +75,6 @@ returns c =
       le-ltb _ _ c.if-length-p.false,
       ← c.length_fits.ensures,
       c.if-not-length_fits.false-raw,
-      ← c.wide-id.ensures,
       ← c.is_known.ensures,
       c.if-not-is_known.false-raw,
-      ← c.wide-action.ensures,
     )

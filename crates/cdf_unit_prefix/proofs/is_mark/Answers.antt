@@ -4,4 +4,4 @@ use Rattle.cdf_unit_prefix.proofs.is_mark.Goals as goal
 
 pub returns : goal.returns
 unfolding marked
-returns c = rw c.second_mark-second.ensures
+returns c = rw c.second_mark.ensures

@@ -1,7 +1,5 @@
--- By the edition: a length of two bytes, or of two pairs.
-use Prim.Native.Nat.{ℕ, ◌≤◌}
-use mathlib.Core.Path.{◌≡◌}
-use native.Mathlib.Omega.{arith}
+-- By the edition: a length of two bytes, or of four.
+use Rattle.std.proofs.Common.{ℕ, ◌≤◌, ◌≡◌, arith}
 use Rattle.cdf_unit_prefix.specs.Layout.{layout_of, prefix_of, length_at}
 use Rattle.cdf_unit_prefix.specs.declared.Edition.{Edition}
 use Rattle.cdf_unit_prefix.specs.declared.Edition.TheVariants.{Second}
@@ -20,9 +18,9 @@ bounds-s-5 c =
 
 pub returns-in-First : goal.returns-in-First
 unfolding length_at
-returns-in-First c = rw c.in-First.is (omega (arith, c.pair.ensures.is))
+returns-in-First c = rw c.in-First.is (omega (arith, c.from_be_bytes.ensures))
 
 pub returns-in-Second : goal.returns-in-Second
 unfolding length_at
 returns-in-Second c =
-    rw c.in-Second.is (omega (arith, c.pair-in-Second.ensures.is, c.pair-in-Second-2.ensures.is))
+    rw c.in-Second.is (omega (arith, c.from_be_bytes-in-Second.ensures))

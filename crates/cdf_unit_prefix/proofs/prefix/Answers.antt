@@ -1,5 +1,5 @@
 -- By the edition.
-use native.Mathlib.Omega.{arith}
+use Rattle.std.proofs.Common.{arith}
 use Rattle.cdf_unit_prefix.proofs.prefix.Goals as goal
 
 pub returns-in-First : goal.returns-in-First

@@ -1,8 +1,6 @@
 -- Below 32 by computation; from there on both sides are false.
-use mathlib.Core.Bool.{not, ◌&&◌, and-false}
-use native.Mathlib.Omega.{arith}
-use borrow.Author.Tests.{le-ltb}
-use lib.Dec.{eqb, leb, ltb}
+use Rattle.std.proofs.Common.{not, ◌&&◌, arith, le-ltb, eqb, leb, ltb}
+use mathlib.Core.Bool.{and-false}
 use Rattle.cdf_unit_table.specs.States.{states_end, skipped}
 use Rattle.cdf_unit_table.proofs.Tests.{by_bit}
 use Rattle.cdf_unit_states.proofs.is_unskipped.Goals as goal

@@ -1,6 +1,5 @@
 -- Each arm by the state in which its unit was skipped; in the last one there is no unit.
-use mathlib.Core.Path.{sym}
-use mathlib.Core.List.{[], ◌∷◌}
+use Rattle.std.proofs.Common.{sym, [], ◌∷◌}
 use Rattle.cdf_unit_table.specs.Ids.{member}
 use Rattle.cdf_unit_table.specs.States.{unit_of, skipped, stream_skipped, er_skipped, file_skipped, call_skipped, template_skipped}
 use Rattle.cdf_unit_table.specs.States.{relation_skipped, ordered_skipped, entity_skipped}

@@ -1,7 +1,6 @@
 -- The arms give the actions of their ids; any other unit has the action none, by a test over the kinds.
 use mathlib.Core.Bool.{or-false}
-use mathlib.Core.List.{[], ◌∷◌}
-use mathlib.Core.Logic.{⊎_elim}
+use Rattle.std.proofs.Common.{[], ◌∷◌, ⊎_elim}
 use Rattle.cdf_unit_table.specs.Ids.{action_allowed, known}
 use Rattle.cdf_unit_table.proofs.Others.{none_else}
 use Rattle.cdf_unit_table.proofs.action_allowed.Goals as goal

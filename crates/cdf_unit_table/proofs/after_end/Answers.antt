@@ -1,7 +1,7 @@
 -- Each arm by its rows; from any other state neither is admitted, by a test over the rows.
-use mathlib.Core.List.{[], ◌∷◌}
+use Rattle.std.proofs.Common.{ap, [], ◌∷◌}
 use Rattle.cdf_unit_table.specs.Ids.{member, entity_key, relation_key}
-use Rattle.cdf_unit_table.specs.States.{admit, relation_new, relation_source, ordered_new, ordered_source}
+use Rattle.cdf_unit_table.specs.States.{some_state, admit, relation_new, relation_source, ordered_new, ordered_source}
 use Rattle.cdf_unit_table.proofs.Rows.{no_state}
 use Rattle.cdf_unit_table.proofs.after_end.Goals as goal
 
@@ -24,5 +24,7 @@ returns-in-24 c = (rw c.in-24.is, rw c.in-24.is)
 pub returns-in_default : goal.returns-in_default
 unfolding member
 returns-in_default c =
-    let known = (ordered_source ∷ []) ∷ (ordered_new ∷ []) ∷ (relation_source ∷ []) ∷ (relation_new ∷ []) ∷ [] in
-    (no_state known entity_key tt _ c.in_default.in_default-own.rest, no_state known relation_key tt _ c.in_default.in_default-own.rest)
+    let known = (ordered_source ∷ []) ∷ (ordered_new ∷ []) ∷ (relation_source ∷ []) ∷ (relation_new ∷ []) ∷ [] in (
+      ap some_state (no_state known entity_key tt _ c.in_default.in_default-own.rest),
+      ap some_state (no_state known relation_key tt _ c.in_default.in_default-own.rest),
+    )

@@ -1,7 +1,7 @@
 -- Each arm by its row; from any other state it is not admitted, by a test over the rows.
-use mathlib.Core.List.{[], ◌∷◌}
+use Rattle.std.proofs.Common.{ap, [], ◌∷◌}
 use Rattle.cdf_unit_table.specs.Ids.{member, template_key}
-use Rattle.cdf_unit_table.specs.States.{admit, template_new, template_keys, entity_new, entity_keys}
+use Rattle.cdf_unit_table.specs.States.{some_state, admit, template_new, template_keys, entity_new, entity_keys}
 use Rattle.cdf_unit_table.proofs.Rows.{no_state}
 use Rattle.cdf_unit_table.proofs.after_key.Goals as goal
 
@@ -24,4 +24,5 @@ returns-in-29 c = rw c.in-29.is
 pub returns-in_default : goal.returns-in_default
 unfolding member
 returns-in_default c =
-    no_state ((entity_keys ∷ []) ∷ (entity_new ∷ []) ∷ (template_keys ∷ []) ∷ (template_new ∷ []) ∷ []) template_key tt _ c.in_default.in_default-own.rest
+    ap some_state (no_state ((entity_keys ∷ []) ∷ (entity_new ∷ []) ∷ (template_keys ∷ []) ∷ (template_new ∷ []) ∷ []) template_key tt _
+    c.in_default.in_default-own.rest)

@@ -1,7 +1,7 @@
 -- Each arm by its parent; any other id admits no others, by a test over the parents.
-use mathlib.Core.List.{[], ◌∷◌}
+use Rattle.std.proofs.Common.{ap, [], ◌∷◌}
 use Rattle.cdf_unit_table.specs.Ids.{member}
-use Rattle.cdf_unit_table.specs.States.{nothing}
+use Rattle.cdf_unit_table.specs.States.{some_state, nothing}
 use Rattle.cdf_unit_table.proofs.Rows.{no_parent}
 use Rattle.cdf_unit_table.proofs.first_state.Goals as goal
 
@@ -40,4 +40,5 @@ returns-in-13 c = rw c.in-13.is
 pub returns-in_default : goal.returns-in_default
 unfolding member
 returns-in_default c =
-    no_parent ((13 ∷ []) ∷ (11 ∷ []) ∷ (10 ∷ []) ∷ (9 ∷ []) ∷ (5 ∷ []) ∷ (4 ∷ []) ∷ (2 ∷ []) ∷ (1 ∷ []) ∷ []) tt _ c.in_default.in_default-own.rest
+    ap some_state (no_parent ((13 ∷ []) ∷ (11 ∷ []) ∷ (10 ∷ []) ∷ (9 ∷ []) ∷ (5 ∷ []) ∷ (4 ∷ []) ∷ (2 ∷ []) ∷ (1 ∷ []) ∷ []) tt _
+    c.in_default.in_default-own.rest)

@@ -1,5 +1,5 @@
 -- The definition, to the letter.
-use mathlib.Core.Path.{refl}
+use Rattle.std.proofs.Common.{refl}
 use Rattle.cdf_unit_table.specs.Ids.{known}
 use Rattle.cdf_unit_table.proofs.is_known.Goals as goal
 

@@ -1,5 +1,6 @@
 -- By the law of the ranges, with the tests on the way.
-use borrow.Author.Tests.{lt-ltb, le-ltb, le-leb, lt-leb}
+use Rattle.std.proofs.Common.{lt-ltb, le-ltb, le-leb}
+use Rattle.std.proofs.lemmas.Bool.{lt-leb}
 use Rattle.cdf_unit_table.proofs.Skipping.{skipped_by, skipped_is}
 use Rattle.cdf_unit_table.proofs.skipped_state.Goals as goal
 

@@ -1,5 +1,5 @@
 -- The number is the one that is defined.
-use mathlib.Core.Path.{refl}
+use Rattle.std.proofs.Common.{refl}
 use Rattle.cdf_version_c.specs.Version.{version}
 use Rattle.cdf_version_c.proofs.cdf_version.Goals as goal
 

@@ -1,7 +1,5 @@
 -- The units that closing leaves are those of the place, and so are their ranks.
-use Prim.Native.Nat.{ℕ}
-use mathlib.Core.Path.{◌≡◌, sym, ap, ◌∙◌}
-use lib.ListN.{length}
+use Rattle.std.proofs.Common.{ℕ, ◌≡◌, sym, ap, ◌∙◌, length}
 use Rattle.cdf_unit_list.specs.declared.Open.{Open}
 use Rattle.cdf_reader_spec.specs.Closing.{unclosed, closed_at}
 use Rattle.cdf_reader_spec.specs.Slots.{open_units, open_ranks, place_of}
@@ -13,15 +11,15 @@ use Rattle.cdf_reader.specs.declared.Place.{Place}
 use Rattle.cdf_reader.proofs.Place.close_ended.Goals as goal
 
 closed : (p : Place) (left : ℕ) (inner : Open) (rank : ℕ) →
-    open_units left inner p.o1 p.o2 p.o3 ≡ unclosed (view p).units p.position → rank ≡ rank_at left p.count p.ranks →
-    place_of p.position left inner p.o1 p.o2 p.o3 p.last p.fresh
+    open_units left inner p.units.o1 p.units.o2 p.units.o3 ≡ unclosed (view p).units p.position → rank ≡ rank_at left p.units.count p.ranks →
+    place_of p.position left inner p.units.o1 p.units.o2 p.units.o3 p.last p.fresh
     (record { top = rank; r1 = p.ranks.r1; r2 = p.ranks.r2; r3 = p.ranks.r3; last = p.ranks.last })
     ≡ closed_at (view p)
 unfolding closed_at open_ranks
 closed p left inner rank is e =
-    let many = sym (length_open left inner p.o1 p.o2 p.o3) ∙ ap length is in
-    rw (is, e, left-ranks p.position p.count p.top p.o1 p.o2 p.o3 p.ranks left many)
+    let many = sym (length_open left inner p.units.o1 p.units.o2 p.units.o3) ∙ ap length is in
+    rw (is, e, left-ranks p.position p.units.count p.units.top p.units.o1 p.units.o2 p.units.o3 p.ranks left many)
 
 pub returns : goal.returns
 returns c =
-    closed c.args.self _ _ _ c.close-left.ensures c.rank_at-rank.ensures
+    closed c.args.self _ _ _ c.close-left.ensures c.rank_at.ensures

@@ -4,4 +4,4 @@ use Rattle.cdf_table_reader.proofs.TablePlace.next.Goals as goal
 
 pub returns : goal.returns
 unfolding entries
-returns c = record { is = c.next_in.ensures.is; kept = c.next_in.ensures.kept }
+returns c = c.next_in.ensures

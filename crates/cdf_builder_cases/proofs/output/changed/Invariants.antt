@@ -1,9 +1,0 @@
--- The count stays within the slice, and is the measure.
-use Rattle.std.proofs.Common.{◌≤◌, length}
-use Rattle.cdf_builder_cases.proofs.output.changed.Given as goal
-
-abbrev pub invariant-loop-n : goal.invariant-loop-n
-invariant-loop-n l = l.n ≤ length l.s
-
-abbrev pub decreases-loop-n : goal.decreases-loop-n
-decreases-loop-n l = l.n

@@ -1,6 +1,0 @@
--- Number by number.
-use mathlib.Core.Path.{refl}
-use Rattle.cdf_builder_numbers.proofs.write_builder.Goals as goal
-
-pub returns : goal.returns
-returns c = refl

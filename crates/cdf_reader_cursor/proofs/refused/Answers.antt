@@ -1,5 +1,0 @@
--- The unit is one of zeros.
-use Rattle.cdf_reader_cursor.proofs.refused.Goals as goal
-
-pub returns : goal.returns
-returns c = rw c.no_ranked-none.ensures
