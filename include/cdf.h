@@ -3,7 +3,7 @@
  * cdf_build.h the builder and the listing, and by cdf_table_reader.h a reader that is driven by a table. The numbers that they share are in
  * cdf_numbers.h.
  *
- * Build target/libcdf.a with ./library, include this file and link the archive. It is for x86-64 Linux, and needs only memmove and memset,
+ * Build target/libcdf.a with ./library, include this file and link the archive. It is for x86-64 Linux, and needs only memcpy and memset,
  * which every C library has.
  *
  * Every call returns a number, cdf_build_batch in a struct: CDF_OK, 0, is done, and the others say what is wrong. A call answers for any

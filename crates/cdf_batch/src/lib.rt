@@ -9,7 +9,7 @@ ghost use Rattle.cdf_batch_turn.specs.Numbers.{viewed, outcome_of};
 ghost use Rattle.cdf_batch_turn.specs.Passes.{writes, going, pass_of, from_place, passed, batched_of};
 
 use cdf_batch_spec::UnitRequest;
-use cdf_batch_turn::{Batched, Pass, PlaceNumbers, Refused, begun, told, turn};
+use cdf_batch_turn::{Batched, Pass, PlaceNumbers, Refused, begun, take, tell_batch};
 
 // A pass over the list, up to the first request that is refused.
 fn run_all(
@@ -25,7 +25,7 @@ fn run_all(
 {
     let mut place = start;
     for (rank, &request) in list.iter().enumerate() {
-        place = turn(pass, place, buffer, request, text).map_err(|refusal| Refused {
+        place = take(pass, place, buffer, request, text).map_err(|refusal| Refused {
             refusal,
             rank,
         })?;
@@ -60,5 +60,5 @@ pub extern "C" fn cdf_build_batch(
         ≡ batch_of (layout_of First) buffer.old text.now (viewed place) list.now }
     ensures kept { (result.number ≡ 0 → ⊥) → result.place ≡ place }
 {
-    told(place, build(place, buffer, list, text))
+    tell_batch(place, build(place, buffer, list, text))
 }

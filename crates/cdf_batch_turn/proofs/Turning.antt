@@ -57,6 +57,11 @@ module _ (l : Layout) (text : List ℕ) (g : Going) (rank : ℕ) (r : UnitReques
   pub turn_still : (g.number ≡ 0 → ⊥) → turn_of l text g rank r ≡ g
   turn_still some = turn_is ∙ rw (ne_eqb g.number 0 some)
 
+  -- Before one, what was told before it does not matter.
+  pub turn_anew : g.number ≡ 0 → turn_of l text (going g.writing g.place g.buffer) rank r ≡ turn_of l text g rank r
+  unfolding turn_of
+  turn_anew zero = rw zero
+
   module _ (zero : g.number ≡ 0) where
     turn_by : (m : ℕ) → Number ≡ m → turn_of l text g rank r ≡ settled l text g rank r m
     turn_by m e = turn_is ∙ rw (zero, e)

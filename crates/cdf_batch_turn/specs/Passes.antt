@@ -18,6 +18,7 @@ use Rattle.cdf_batch_turn.specs.declared.Batched.{Batched}
 use Rattle.cdf_batch_turn.specs.declared.Pass.{Pass}
 use Rattle.cdf_batch_turn.specs.declared.Pass.TheVariants.{Judging, Writing}
 use Rattle.cdf_batch_turn.specs.declared.Refused.{Refused}
+use Rattle.cdf_batch_turn.specs.declared.Ran.{Ran}
 use Rattle.cdf_batch_turn.specs.Numbers.{viewed}
 
 -- Where a pass stands: whether it writes, the number of the first request that was refused with its rank, the place and the buffer.
@@ -31,6 +32,10 @@ pub record Going : Type 0 where
 abbrev pub writes : Pass → Bool
 writes Judging = false
 writes Writing = true
+
+-- As a struct of numbers holds it, but for the place, which is its view; and the buffer.
+abbrev pub going_of : Ran → List ℕ → Going
+going_of q s = record { writing = q.writing; number = q.number; rank = q.rank; place = viewed q.place; buffer = s }
 
 -- Where none was refused,
 abbrev pub going : Bool → BuilderPlace → List ℕ → Going
@@ -118,3 +123,10 @@ passed w p (Err e) s = stopped w p e.refusal e.rank s
 abbrev pub batched_of : PlaceNumbers → Result PlaceNumbers Refused → Batched
 batched_of p (Ok q) = record { number = 0; rank = 0; place = q }
 batched_of p (Err e) = record { number = number_of e.refusal; rank = e.rank; place = p }
+
+-- By the struct of numbers: between the passes, and what is told behind the second.
+abbrev pub second_of : PlaceNumbers → Ran → Ran
+second_of p q = cond (eqb q.number 0) (record { writing = true; number = 0; rank = 0; place = p }) q
+
+abbrev pub told_of : PlaceNumbers → Ran → Batched
+told_of p q = record { number = q.number; rank = q.rank; place = cond (eqb q.number 0) q.place p }

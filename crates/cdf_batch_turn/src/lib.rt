@@ -16,6 +16,7 @@ ghost use Rattle.cdf_batch_spec.specs.Asking.{bounded};
 ghost use Rattle.cdf_batch_turn.specs.Numbers.{viewed, parts_from, numbers_from};
 ghost use Rattle.cdf_batch_turn.specs.Passes.{writes, part, within, begun_number, going, turned, turn_of, batched_of};
 
+pub use crate::numbered::{second, told, turn};
 use cdf_batch_spec::UnitRequest;
 use cdf_builder_append::append_unit;
 use cdf_builder_enter::enter;
@@ -27,6 +28,8 @@ use cdf_open_units::OpenUnits;
 use cdf_refusal::Refusal;
 use cdf_unit_prefix::{Edition, limit, prefix};
 use cdf_unit_table::{action_allowed, first_state, is_known};
+
+mod numbered;
 
 // The ten numbers of a builder's place: the bytes written; how many units are open; state and start of the innermost, then of the
 // others from the root inwards. It is the struct of the C interface.
@@ -67,6 +70,15 @@ pub enum Pass {
 pub struct Refused {
     pub refusal: Refusal,
     pub rank: usize,
+}
+
+// Where a pass over the list stands, in numbers: whether it writes, the number of the first request that was refused with its rank, and the place.
+#[derive(Clone, Copy)]
+pub struct Ran {
+    pub writing: bool,
+    pub number: usize,
+    pub rank: usize,
+    pub place: PlaceNumbers,
 }
 
 // A list that is refused before any request is looked at.
@@ -202,7 +214,7 @@ pub fn begun(place: PlaceNumbers, n: usize, count: usize) -> Result<(), Refusal>
 
 // A request, of any rank: judged in the first pass, written in the second. Whether the place fits is not asked: it did before the first
 // pass, and a request that is taken leaves one that does.
-pub fn turn(
+pub fn take(
     pass: Pass,
     place: PlaceNumbers,
     buffer: &mut [u8],
@@ -230,7 +242,7 @@ pub fn turn(
 }
 
 // Behind the second pass: beside a refusal the place that was given.
-pub fn told(given: PlaceNumbers, built: Result<PlaceNumbers, Refused>) -> Batched
+pub fn tell_batch(given: PlaceNumbers, built: Result<PlaceNumbers, Refused>) -> Batched
     ensures { result ≡ batched_of given built }
 {
     match built {

@@ -10,7 +10,7 @@ ghost use Rattle.cdf_builder.specs.View.{view, no_builder};
 ghost use Rattle.cdf_builder_numbers.specs.Numbers.{builder_from, numbers_of, reply_from, call_from};
 
 use cdf_builder::start;
-use cdf_builder_numbers::{builder_from, store};
+use cdf_builder_numbers::{builder_from, store_answer};
 use cdf_refusal::tell;
 
 // START: the number; the place's numbers are written always, as zeros where the start is refused.
@@ -20,7 +20,7 @@ pub extern "C" fn cdf_build_first(buffer: &mut [u8], root: u64, place: &mut [u64
     ensures clears { (result ≡ 0 → ⊥) → place.new ≡ numbers_of no_builder }
 {
     *place = [0; 10];
-    store(start(buffer, root as usize), place)
+    store_answer(start(buffer, root as usize), place)
 }
 
 // ADD_STREAM: the number; the place's numbers are written where it is 0.
@@ -34,7 +34,7 @@ pub extern "C" fn cdf_build_add_stream(
         ≡ call_from buffer.old place.old (group bytes.now) }
     ensures stays { (result ≡ 0 → ⊥) → place.new ≡ place.old }
 {
-    store(builder_from(place).add_stream(buffer, bytes), place)
+    store_answer(builder_from(place).add_stream(buffer, bytes), place)
 }
 
 // FINISH: the number; in answer the stream's length, beside any other number than 0 none.

@@ -42,17 +42,21 @@ fn longer(n: usize, c: u8) -> Option<usize> {
     Some(n * 10 + d)
 }
 
-// The decimal number that stands before this byte, of 19 digits at most.
-pub(crate) fn number(input: &mut impl Read, end: u8) -> Result<usize, Stop> {
+// The decimal number that stands before this byte, of 19 digits at most. What cannot be read is none: a line is read on, as far as its fields
+// tell where it ends, before it is judged.
+pub(crate) fn number(input: &mut impl Read, end: u8) -> io::Result<Option<usize>> {
     let mut n = 0;
     for _ in 0..20 {
         let c = next_byte(input)?;
         if c == end {
-            return Ok(n);
+            return Ok(Some(n));
         }
-        n = longer(n, c).ok_or(Stop::Unreadable)?;
+        let Some(more) = longer(n, c) else {
+            return Ok(None);
+        };
+        n = more;
     }
-    Err(Stop::Unreadable)
+    Ok(None)
 }
 
 // The byte of two digits.
@@ -61,20 +65,20 @@ fn byte_of(high: u8, low: u8) -> Option<u8> {
 }
 
 // The byte whose first digit is c.
-fn byte_at(input: &mut impl Read, c: u8) -> Result<u8, Stop> {
+fn byte_at(input: &mut impl Read, c: u8) -> io::Result<Option<u8>> {
     let low = next_byte(input)?;
-    byte_of(c, low).ok_or(Stop::Unreadable)
+    Ok(byte_of(c, low))
 }
 
 // The byte whose digits come next.
-fn two_digits(input: &mut impl Read) -> Result<u8, Stop> {
+fn two_digits(input: &mut impl Read) -> io::Result<Option<u8>> {
     let c = next_byte(input)?;
     byte_at(input, c)
 }
 
 // The functions named put_.. put bytes behind the first n of s, which is lent fixed memory, and return how many there are then.
-fn put_byte(s: &mut [u8], n: usize, byte: u8) -> Option<usize> {
-    *s.get_mut(n)? = byte;
+fn put_byte(s: &mut [u8], n: usize, byte: Option<u8>) -> Option<usize> {
+    *s.get_mut(n)? = byte?;
     Some(n + 1)
 }
 
@@ -82,41 +86,46 @@ fn put_byte(s: &mut [u8], n: usize, byte: u8) -> Option<usize> {
 fn put_run(s: &mut [u8], n: usize, count: usize, byte: Option<u8>) -> Option<usize> {
     let mut end = n;
     for _ in 0..count {
-        end = put_byte(s, end, byte?)?;
+        end = put_byte(s, end, byte)?;
     }
     Some(end)
 }
 
 // The run whose `*` was read. That its byte cannot be read is nothing to a run of none.
-fn put_counted(input: &mut impl Read, s: &mut [u8], n: usize) -> Result<usize, Stop> {
+fn put_counted(input: &mut impl Read, s: &mut [u8], n: usize) -> io::Result<Option<usize>> {
     let high = two_digits(input)?;
     let low = two_digits(input)?;
-    let byte = match two_digits(input) {
-        Ok(byte) => Some(byte),
-        Err(Stop::Unreadable) => None,
-        Err(failed) => return Err(failed),
+    let byte = two_digits(input)?;
+    let Some(high) = high else {
+        return Ok(None);
     };
-    put_run(s, n, high as usize * 256 + low as usize, byte).ok_or(Stop::Unreadable)
+    let Some(low) = low else {
+        return Ok(None);
+    };
+    Ok(put_run(s, n, high as usize * 256 + low as usize, byte))
 }
 
 // The byte whose first digit is c, or the run whose `*` it is.
-fn put_next(input: &mut impl Read, s: &mut [u8], n: usize, c: u8) -> Result<usize, Stop> {
+fn put_next(input: &mut impl Read, s: &mut [u8], n: usize, c: u8) -> io::Result<Option<usize>> {
     if c == b'*' {
         return put_counted(input, s, n);
     }
     let byte = byte_at(input, c)?;
-    put_byte(s, n, byte).ok_or(Stop::Unreadable)
+    Ok(put_byte(s, n, byte))
 }
 
 // Puts the bytes of the rest of a line into s, and returns how many there are.
-pub(crate) fn read_data(input: &mut impl Read, s: &mut [u8]) -> Result<usize, Stop> {
+pub(crate) fn read_data(input: &mut impl Read, s: &mut [u8]) -> io::Result<Option<usize>> {
     let mut n = 0;
     for _ in 0..u64::MAX {
         let c = next_byte(input)?;
         if c == b'\n' {
-            return Ok(n);
+            return Ok(Some(n));
         }
-        n = put_next(input, s, n, c)?;
+        let Some(more) = put_next(input, s, n, c)? else {
+            return Ok(None);
+        };
+        n = more;
     }
-    Err(Stop::Unreadable)
+    Ok(None)
 }

@@ -48,7 +48,7 @@ fn answered(
 }
 
 fn run_start(rt: &impl Print, input: &mut impl Read, buffer: &mut [u8]) -> Result<Builder, Stop> {
-    let id = number(input, b'\n')?;
+    let id = number(input, b'\n')?.ok_or(Stop::Unreadable)?;
     answered(rt, 'S', Builder::default(), start(buffer, id))
 }
 
@@ -62,6 +62,9 @@ fn run_next(
     let action = number(input, b' ')?;
     let mut data = [0u8; 65536];
     let n = read_data(input, &mut data)?;
+    let id = id.ok_or(Stop::Unreadable)?;
+    let action = action.ok_or(Stop::Unreadable)?;
+    let n = n.ok_or(Stop::Unreadable)?;
     let data = data.get(..n).ok_or(Stop::Unreadable)?;
     answered(rt, 'N', place, place.next(buffer, id, action, data))
 }
@@ -73,7 +76,7 @@ fn run_add_stream(
     place: Builder,
 ) -> Result<Builder, Stop> {
     let mut data = [0u8; 65536];
-    let n = read_data(input, &mut data)?;
+    let n = read_data(input, &mut data)?.ok_or(Stop::Unreadable)?;
     let data = data.get(..n).ok_or(Stop::Unreadable)?;
     answered(rt, 'A', place, place.add_stream(buffer, data))
 }
@@ -98,10 +101,16 @@ fn run_finish(
     Ok(place)
 }
 
-fn read_open(input: &mut impl Read) -> Result<Begun, Stop> {
+fn read_open(input: &mut impl Read) -> io::Result<Option<Begun>> {
     let state = number(input, b' ')?;
     let start = number(input, b' ')?;
-    Ok(Begun { state, start })
+    let Some(state) = state else {
+        return Ok(None);
+    };
+    let Some(start) = start else {
+        return Ok(None);
+    };
+    Ok(Some(Begun { state, start }))
 }
 
 fn read_place(input: &mut impl Read) -> Result<Builder, Stop> {
@@ -112,13 +121,13 @@ fn read_place(input: &mut impl Read) -> Result<Builder, Stop> {
     let count = number(input, b' ')?;
     let written = number(input, b'\n')?;
     Ok(Builder {
-        written,
+        written: written.ok_or(Stop::Unreadable)?,
         units: OpenUnits {
-            count,
-            top,
-            o1,
-            o2,
-            o3,
+            count: count.ok_or(Stop::Unreadable)?,
+            top: top.ok_or(Stop::Unreadable)?,
+            o1: o1.ok_or(Stop::Unreadable)?,
+            o2: o2.ok_or(Stop::Unreadable)?,
+            o3: o3.ok_or(Stop::Unreadable)?,
         },
     })
 }
@@ -178,7 +187,7 @@ fn copy_label(rt: &impl Print, input: &mut impl Read, c: u8) -> Result<(), Stop>
 // Runs the case whose label begins with c.
 fn run_case(rt: &impl Print, input: &mut impl Read, c: u8) -> Result<(), Stop> {
     copy_label(rt, input, c)?;
-    let size = number(input, b'\n')?;
+    let size = number(input, b'\n')?.ok_or(Stop::Unreadable)?;
     let mut space = [0xEEu8; 65536];
     let buffer = space.get_mut(..size).ok_or(Stop::Unreadable)?;
     run_lines(rt, input, buffer)

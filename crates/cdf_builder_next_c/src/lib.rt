@@ -6,7 +6,7 @@ ghost use Rattle.std.specs.Prelude.{◌≡◌};
 ghost use Rattle.cdf_builder_spec.specs.Requests.{unit};
 ghost use Rattle.cdf_builder_numbers.specs.Numbers.{reply_from, call_from};
 
-use cdf_builder_numbers::{builder_from, store};
+use cdf_builder_numbers::{builder_from, store_answer};
 
 // NEXT: the number; the place's numbers are written where it is 0.
 #[unsafe(no_mangle)]
@@ -22,5 +22,5 @@ pub extern "C" fn cdf_build_next(
     ensures stays { (result ≡ 0 → ⊥) → place.new ≡ place.old }
 {
     let answer = builder_from(place).next(buffer, id as usize, action as usize, data);
-    store(answer, place)
+    store_answer(answer, place)
 }

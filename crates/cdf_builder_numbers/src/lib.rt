@@ -1,7 +1,7 @@
 // The numbers that a builder's place is in C: read, written, and stored where a call is done.
 #![tactic(auto)]
 
-ghost use Rattle.std.specs.Prelude.{◌≡◌, ◌+◌, ◌<◌};
+ghost use Rattle.std.specs.Prelude.{◌≡◌, ◌+◌, ◌<◌, cond, eqb};
 ghost use Rattle.cdf_builder_spec.specs.Told.{told};
 ghost use Rattle.cdf_builder_numbers.specs.Numbers.{begun_from, builder_from, numbers_of, stored};
 
@@ -9,6 +9,13 @@ use cdf_builder::Builder;
 use cdf_builder_spec::Begun;
 use cdf_open_units::OpenUnits;
 use cdf_refusal::Refusal;
+
+// What a call answers, in numbers: any number, and the new place.
+#[derive(Clone, Copy)]
+pub struct Built {
+    pub number: usize,
+    pub place: Builder,
+}
 
 // The open unit whose state and start stand there.
 fn begun_at(a: &[u64; 10], at: usize) -> Begun
@@ -56,7 +63,7 @@ pub fn write_builder(p: Builder, a: &mut [u64; 10])
 }
 
 // Writes the place that a call answers, and returns the number that it tells.
-pub fn store(answer: Result<Builder, Refusal>, place: &mut [u64; 10]) -> u64
+pub fn store_answer(answer: Result<Builder, Refusal>, place: &mut [u64; 10]) -> u64
     ensures number { result ≡ told answer }
     ensures place { place.new ≡ stored answer place.old }
 {
@@ -67,4 +74,16 @@ pub fn store(answer: Result<Builder, Refusal>, place: &mut [u64; 10]) -> u64
         }
         Err(refusal) => refusal.number() as u64,
     }
+}
+
+// The same by any number: writes the place of an answer whose number is 0, and returns the number.
+pub fn store(built: Built, place: &mut [u64; 10]) -> u64
+    ensures number { result ≡ built.number }
+    ensures place { place.new ≡ cond (eqb built.number 0) (numbers_of built.place) place.old }
+{
+    if built.number != 0 {
+        return built.number as u64;
+    }
+    write_builder(built.place, place);
+    0
 }

@@ -24,7 +24,7 @@ fn put_number(width: usize, tail: &mut [u8], number: usize)
     requires { (width ≤ 8) × (width ≤ length tail.old) }
     ensures { tail.new ≡ bytes_of width number ++ drop width tail.old }
 {
-    tail[..width].copy_from_slice(&number.to_be_bytes()[8 - width..]);
+    copy(tail, &number.to_be_bytes()[8 - width..]);
 }
 
 // How many bytes a length has.

@@ -1,4 +1,4 @@
--- What the private functions of `explain` promise each other. No claim and no contract that is open to callers cites this file.
+-- What the private functions of `explain` promise each other, and what its impls state. No claim and no open function cites this file.
 use Rattle.std.specs.Prelude.{ℕ, Bool, not, cond, List, [], ◌∷◌, map, reverse, eqb, ltb, length}
 use Rattle.cdf_unit_table.specs.Ids.{ids_end}
 use Rattle.cdf_unit_table.specs.States.{unit_of, admit, root_kind}

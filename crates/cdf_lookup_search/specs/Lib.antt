@@ -1,3 +1,4 @@
 pub mod Over
 pub mod Placed
+pub mod Root
 pub mod Walking

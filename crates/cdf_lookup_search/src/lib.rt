@@ -10,6 +10,7 @@ ghost use Rattle.cdf_lookup_spec.specs.Find.{reads, is_group};
 ghost use Rattle.cdf_lookup_spec.specs.Told.{query_of};
 ghost use Rattle.cdf_lookup_spec.specs.Search.{advance_of, outcome_of};
 ghost use Rattle.cdf_lookup_search.specs.Over.{is_over};
+ghost use Rattle.cdf_lookup_search.specs.Root.{group_root};
 ghost use Rattle.cdf_lookup_search.specs.Placed.{Lies, Placed};
 ghost use Rattle.cdf_lookup_search.specs.Walking.{walked_of, Tells, WalkedIn};
 
@@ -104,7 +105,8 @@ fn is_over(state: Search) -> bool
 
 // Whether a start hands out the root of an E/R group.
 pub fn is_group(root: Result<Answer, Fault>) -> bool
-    ensures { (l : Layout) → (s : List ℕ) → reply_from no_place root ≡ first_of l s → result ≡ is_group (listing l s).units }
+    ensures is { result ≡ group_root root }
+    ensures listed { (l : Layout) → (s : List ℕ) → reply_from no_place root ≡ first_of l s → result ≡ is_group (listing l s).units }
 {
     match root {
         Ok(a) => a.handed.unit.id == ER_GROUP,

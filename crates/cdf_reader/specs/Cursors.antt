@@ -1,4 +1,4 @@
--- A place and the cursor that the crates below work on have the same parts. No contract that is open to callers cites this file.
+-- A place and the cursor that the crates below work on have the same parts: what `Place::cursor` and the impls between them state.
 use Rattle.cdf_reader_cursor.specs.declared.Cursor.{Cursor}
 use Rattle.cdf_reader_cursor.specs.declared.Outcome.{Outcome}
 use Rattle.cdf_reader.specs.declared.Place.{Place}

@@ -5,7 +5,7 @@ ghost use Rattle.std.specs.Prelude.{◌≡◌};
 ghost use Rattle.cdf_reader_spec.specs.Calls.{empty_place};
 ghost use Rattle.cdf_reader_numbers.specs.Numbers.{answer_numbers, keeps, Called};
 ghost use Rattle.cdf_reader_numbers.specs.Taking.{part_is};
-ghost use Rattle.cdf_reader_call_numbers.specs.Telling.{Tells};
+ghost use Rattle.cdf_reader_call_numbers.specs.Telling.{number_told, place_told, answer_told, Tells};
 
 use cdf_reader::{Answer, is_start};
 use cdf_reader_numbers::{Part, place_from, write_place};
@@ -47,7 +47,10 @@ pub fn tell(
     place: &mut [u64; 25],
     answer: &mut [u64; 10],
 ) -> u64
-    ensures { Tells call told last place.old result place.new answer.new }
+    ensures is { result ≡ number_told told }
+    ensures moves { place.new ≡ place_told call told place.old }
+    ensures writes { answer.new ≡ answer_told call told last }
+    ensures due { Tells call told last place.old result place.new answer.new }
 {
     match told {
         Ok(a) => {

@@ -5,7 +5,8 @@ ghost use Rattle.std.specs.Prelude.{◌≡◌, ℕ, false, List};
 ghost use Rattle.cdf_unit_prefix.specs.Layout.{Layout, layout_of};
 ghost use Rattle.cdf_unit_judge.specs.Judge.{Judged, judge_in};
 ghost use Rattle.cdf_unit_judge.specs.Answers.{judged};
-ghost use Rattle.cdf_unit_judge.proofs.Keeping.{Keeps, in_keeps};
+ghost use Rattle.cdf_unit_judge.specs.Keeping.{Keeps};
+ghost use Rattle.cdf_unit_judge.proofs.Keeping.{in_keeps};
 
 use cdf_refusal::Fault;
 use cdf_unit_judge::{Admitted, Grammar, judge};

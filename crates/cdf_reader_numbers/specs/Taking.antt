@@ -1,4 +1,4 @@
--- The part that goes with a call, as a private function finds it: nobody has to believe it.
+-- The part that goes with a call, as `Part::of` finds it. No contract of a function for C cites this file.
 use Rattle.std.specs.Prelude.{ℕ, ◌-◌, Bool, true, false, cond, ◌&&◌, eqb}
 use Rattle.cdf_reader_spec.specs.Calls.{Part, no_part}
 use Rattle.cdf_reader_spec.specs.declared.Call.{Call}

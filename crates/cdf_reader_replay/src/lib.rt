@@ -2,16 +2,19 @@
 // fits: the reader's own calls test no place.
 #![tactic(auto)]
 
-ghost use Rattle.std.specs.Prelude.{◌≡◌, ℕ, Some, None, cond, [], ◌∷◌, map, ◌*◌, ◌≤◌, length};
-ghost use Rattle.cdf_unit_prefix.specs.Layout.{edition_of, layout_for};
-ghost use Rattle.cdf_unit_data.specs.Standing.{name_row};
-ghost use Rattle.cdf_reader_spec.specs.Calls.{call_of};
+ghost use Rattle.std.specs.Prelude.{◌≡◌, ℕ, Some, None, cond, List, [], ◌∷◌, map, ◌*◌, ◌≤◌, length};
+ghost use Rattle.cdf_unit_prefix.specs.Layout.{Layout, edition_of, layout_of, layout_for};
+ghost use Rattle.cdf_unit_data.specs.Standing.{name_row, row_bytes};
+ghost use Rattle.cdf_reader_spec.specs.Calls.{Reply, call_of};
+ghost use Rattle.cdf_reader_spec.specs.declared.Call.{Call};
+ghost use Rattle.cdf_reader_cursor.specs.declared.Cursor.{Cursor};
 ghost use Rattle.cdf_reader_cursor.specs.Outcomes.{cursor_place, reply_from};
 ghost use Rattle.cdf_reader_step.specs.Kept.{cursor_kept};
 ghost use Rattle.cdf_reader_numbers.specs.Taking.{part_is, part_by};
 ghost use Rattle.cdf_reader_replay_spec.specs.Replay.{known_code, call_by, ran_of, entry_of, log_after, Replayed};
 ghost use Rattle.cdf_refusal.specs.Numbers.{number_in, count_in};
 ghost use Rattle.cdf_reader_replay_spec.specs.Holding.{Held, cursor_after, number_told, told_of};
+ghost use Rattle.cdf_reader_replay.specs.Turned.{turned_by};
 
 use cdf_reader_advance_by::advance;
 use cdf_reader_cursor::{Cursor, Outcome, first_as, no_cursor, pass};
@@ -34,11 +37,15 @@ pub trait Turns {
     fn call_of(code: u8) -> Option<Call>
         ensures { result ≡ cond (known_code (heard code)) (Some (call_by (heard code))) None };
 
-    // Any call at a place that the loop holds.
+    // What a call answers at any place, by this reader's calls.
+    ghost turned: { Self → Layout → List ℕ → Cursor → Call → Reply };
+
+    // Any call. At a place that the loop holds it is the first reader's, and the loop may go on with what it leaves.
     fn turn(&self, c: Cursor, edition: Edition, call: Call, s: &[u8]) -> Result<Outcome, Fault>
-        requires { Held s.now c × (edition ≡ edition_of s.now) }
-        ensures is { reply_from (cursor_kept call c) result ≡ call_of (layout_for s.now) s.now (cursor_place c) call }
-        ensures held { Held s.now (cursor_after call c result) };
+        ensures is { reply_from (cursor_kept call c) result ≡ turned self.now (layout_of edition) s.now c call }
+        ensures due { Held s.now c → edition ≡ edition_of s.now →
+            reply_from (cursor_kept call c) result ≡ call_of (layout_for s.now) s.now (cursor_place c) call }
+        ensures held { Held s.now c → edition ≡ edition_of s.now → Held s.now (cursor_after call c result) };
 }
 
 // The first reader, with the format's row of name bytes.
@@ -49,6 +56,8 @@ struct ByRow {
 
 impl Turns for ByRow {
     ghost heard = { λ code. code };
+
+    ghost turned = { λ by. turned_by (row_bytes by.row) };
 
     #[inline]
     fn call_of(code: u8) -> Option<Call> {

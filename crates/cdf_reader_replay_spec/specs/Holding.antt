@@ -1,4 +1,4 @@
--- What the loop knows of its cursor, and what is written of a turn. No contract that is open to callers cites this file.
+-- What the loop knows of its cursor, and what is written of a turn. Of the contracts that are open only the trait `Turns` cites this file.
 use Rattle.std.specs.Prelude.{ℕ, ◌≡◌, true, List, length, Result, Ok, Err}
 use Rattle.cdf_refusal.specs.Numbers.{number_of}
 use Rattle.cdf_refusal.specs.declared.Fault.{Fault}

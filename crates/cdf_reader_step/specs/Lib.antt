@@ -1,2 +1,3 @@
 pub mod Kept
 pub mod Asked
+pub mod Depth

@@ -9,6 +9,7 @@ ghost use Rattle.cdf_reader_spec.specs.Calls.{next_of, call_of, is_start};
 ghost use Rattle.cdf_reader_spec.specs.declared.Call.TheVariants.{Previous};
 ghost use Rattle.cdf_reader_cursor.specs.Outcomes.{cursor_place, reply_from};
 ghost use Rattle.cdf_reader_step.specs.Asked.{next_with};
+ghost use Rattle.cdf_reader_step.specs.Depth.{depth_by};
 ghost use Rattle.cdf_reader_step.specs.Kept.{cursor_kept, Again};
 
 use cdf_reader_advance_by::{advance, advance_with};
@@ -38,7 +39,8 @@ fn is_ready(c: Cursor, edition: Edition, n: usize, call: Call) -> bool
 
 // How deep the last unit of a place stands: it is the innermost by its start, or stands in that one.
 pub fn last_depth(c: Cursor) -> usize
-    ensures { (1 ≤ c.units.count) × (c.units.count ≤ 5) → result ≡ depth_at (cursor_place c) }
+    ensures is { result ≡ depth_by c }
+    ensures placed { (1 ≤ c.units.count) × (c.units.count ≤ 5) → result ≡ depth_at (cursor_place c) }
 {
     if c.units.top.start == c.last.start {
         return c.units.count;

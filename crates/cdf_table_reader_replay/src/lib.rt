@@ -2,9 +2,14 @@
 #![tactic(auto)]
 
 ghost use Rattle.std.specs.Prelude.{◌≡◌, [], ◌∷◌};
+ghost use Rattle.cdf_unit_prefix.specs.Layout.{layout_of};
+ghost use Rattle.cdf_reader_spec.specs.declared.Call.TheVariants.{Previous};
+ghost use Rattle.cdf_reader_cursor.specs.Outcomes.{reply_from};
+ghost use Rattle.cdf_reader_step.specs.Kept.{cursor_kept, Again};
 ghost use Rattle.cdf_refusal.specs.Numbers.{number_in, count_in};
 ghost use Rattle.cdf_table_reader_spec.specs.Table.{entries};
 ghost use Rattle.cdf_table_reader_replay_spec.specs.Replay.{heard, TableReplayed};
+ghost use Rattle.cdf_table_reader_replay.specs.Turned.{turned_by};
 
 use cdf_reader_cursor::{Cursor, Outcome};
 use cdf_reader_replay::{Turns, replay_by};
@@ -16,6 +21,30 @@ use cdf_table_reader_first::first_by;
 use cdf_table_reader_step::advance_by;
 use cdf_unit_prefix::Edition;
 
+// Each call by any table and at any cursor. What looks into no row is the first reader's. NEXT tests no place: each that the loop holds fits.
+#[inline]
+fn turn_by(
+    table: &[u8; 434],
+    c: Cursor,
+    edition: Edition,
+    call: Call,
+    s: &[u8],
+) -> Result<Outcome, Fault>
+    ensures is { reply_from (cursor_kept call c) result ≡ turned_by table.now (layout_of edition) s.now c call }
+    ensures again { call ≡ Previous → Again c result }
+{
+    match call {
+        Call::Start => first_by(table, edition, s),
+        Call::Next => {
+            if c.units.count == 0 {
+                return Err(Refusal::NoUse.at(0));
+            }
+            advance_by(table, c, edition, s)
+        }
+        Call::Skip | Call::GetStream | Call::Previous => call_at(c, edition, call, s),
+    }
+}
+
 // The table reader, with the format's table.
 struct ByTable {
     table: [u8; 434],
@@ -24,6 +53,8 @@ struct ByTable {
 
 impl Turns for ByTable {
     ghost heard = { heard };
+
+    ghost turned = { λ by. turned_by by.table };
 
     #[inline]
     fn call_of(code: u8) -> Option<Call> {
@@ -35,19 +66,9 @@ impl Turns for ByTable {
         }
     }
 
-    // What looks into no row is the first reader's. NEXT tests no place: each that the loop holds fits.
     #[inline]
     fn turn(&self, c: Cursor, edition: Edition, call: Call, s: &[u8]) -> Result<Outcome, Fault> {
-        match call {
-            Call::Start => first_by(&self.table, edition, s),
-            Call::Next => {
-                if c.units.count == 0 {
-                    return Err(Refusal::NoUse.at(0));
-                }
-                advance_by(&self.table, c, edition, s)
-            }
-            Call::Skip | Call::GetStream | Call::Previous => call_at(c, edition, call, s),
-        }
+        turn_by(&self.table, c, edition, call, s)
     }
 }
 

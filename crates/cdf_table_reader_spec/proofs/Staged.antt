@@ -3,7 +3,8 @@ use Rattle.std.proofs.Common.{ℕ, ◌≡◌, refl, Bool, List}
 use Rattle.cdf_unit_prefix.specs.Layout.{Layout}
 use Rattle.cdf_unit_data.specs.Data.{name_bytes}
 use Rattle.cdf_unit_judge.specs.Judge.{judge_by}
-use Rattle.cdf_unit_judge.proofs.Keeping.{Keeps, judged_lies}
+use Rattle.cdf_unit_judge.specs.Keeping.{Keeps}
+use Rattle.cdf_unit_judge.proofs.Keeping.{judged_lies}
 use Rattle.cdf_table_reader_spec.specs.Table.{looked}
 use Rattle.cdf_table_reader_spec.specs.Calls.{table_judge}
 

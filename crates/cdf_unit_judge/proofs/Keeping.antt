@@ -6,16 +6,8 @@ use Rattle.cdf_unit_prefix.specs.Layout.{Layout, prefix_of}
 use Rattle.cdf_unit_prefix.specs.Rules.{head_of, Head, Stop, Prefix}
 use Rattle.cdf_unit_data.specs.Data.{NameBytes}
 use Rattle.cdf_unit_judge.specs.Judge.{body_by, found_by, judge_head, judge_by, judge_in, Body, Action, Data, Whole, Judged, Fault, Found}
+use Rattle.cdf_unit_judge.specs.Keeping.{Lies, Keeps}
 use Rattle.cdf_unit_judge.proofs.Placed.{headed, body_fits, fault_fits}
-
--- A fault's offset, and a unit's own data and end, of n bytes.
-abbrev pub Lies : ℕ → Judged → Type 0
-Lies n (Fault m k) = k ≤ n
-Lies n (Found id action own len state) = (own ≤ len) × (len ≤ n)
-
--- What a judge finds keeps in its bytes.
-abbrev pub Keeps : (ℕ → List ℕ → Judged) → Type 0
-Keeps judge = (state : ℕ) (t : List ℕ) → Lies (length t) (judge state t)
 
 module _ (w : NameBytes) (l : Layout) (root : Bool) (admitted : ℕ → ℕ) (s : List ℕ) where
   of_body : (id action len next : ℕ) → prefix_of l ≤ len → len ≤ length s → (c : Body) →

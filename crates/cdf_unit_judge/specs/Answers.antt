@@ -1,5 +1,5 @@
 -- What the code's answers say.
-use Rattle.std.specs.Prelude.{ℕ, ◌+◌, Result, Ok, Err}
+use Rattle.std.specs.Prelude.{ℕ, ◌+◌, ◌-◌, ◌^◌, min, Result, Ok, Err}
 use Rattle.cdf_refusal.specs.Numbers.{number_of}
 use Rattle.cdf_refusal.specs.declared.Refusal.{Refusal}
 use Rattle.cdf_refusal.specs.declared.Refusal.TheVariants.{Action as ActionRefused, OwnData}
@@ -27,6 +27,11 @@ byte_of (BadData k) = k
 abbrev pub fault_of : ℕ → ℕ → BodyFault → Refused
 fault_of start body BadAction = record { refusal = ActionRefused; offset = start }
 fault_of start body (BadData k) = record { refusal = OwnData; offset = body + k }
+
+-- The same wherever the two lie: where the sum is no offset of 64 bits, the last such offset.
+abbrev pub told_at : ℕ → ℕ → BodyFault → Refused
+told_at start body BadAction = record { refusal = ActionRefused; offset = start }
+told_at start body (BadData k) = record { refusal = OwnData; offset = min (body + k) (2 ^ 64 - 1) }
 
 -- The rule that is broken.
 abbrev pub refusal_of : BodyFault → Refusal

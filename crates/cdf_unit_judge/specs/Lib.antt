@@ -1,3 +1,4 @@
 pub mod Judge
 pub mod Answers
+pub mod Keeping
 pub mod Short

@@ -6,7 +6,7 @@ ghost use Rattle.cdf_unit_table.specs.States.{admit, some_state};
 ghost use Rattle.cdf_unit_prefix.specs.Layout.{layout_of};
 ghost use Rattle.cdf_unit_judge.specs.Short.{Short};
 ghost use Rattle.cdf_unit_judge.specs.Judge.{body_by, found_by, judge_by, judge_of};
-ghost use Rattle.cdf_unit_judge.specs.Answers.{bodied, judged, byte_of, fault_of, refusal_of};
+ghost use Rattle.cdf_unit_judge.specs.Answers.{bodied, judged, byte_of, fault_of, told_at, refusal_of};
 
 use cdf_refusal::{Fault, Refusal};
 use cdf_unit_own::{NameRow, own_data};
@@ -23,7 +23,8 @@ pub enum BodyFault {
 impl BodyFault {
     // The fault of a unit that starts at the one offset and whose prefix ends at the other.
     pub fn told(self, start: usize, body: usize) -> Fault
-        ensures { body + byte_of self < 2 ^ 64 → result ≡ fault_of start body self }
+        ensures is { result ≡ told_at start body self }
+        ensures near { body + byte_of self < 2 ^ 64 → result ≡ fault_of start body self }
     {
         match self {
             BodyFault::Action => Fault {

@@ -30,20 +30,20 @@ pub loop-rank-preserved : goal.loop-rank-preserved
 loop-rank-preserved c =
     let w = writes c.args.pass in
     let x = c.loop-rank in
-    let is = taken x.rank-counter c.turn.result c.map_err.result (search (rules, c.map_err.ensures.cases)) _ c.in_ok-place.was in
+    let is = taken x.rank-counter c.take.result c.map_err.result (search (rules, c.map_err.ensures.cases)) _ c.in_ok-place.was in
     one_more (layout_of First) c.args.text.now (going w (viewed x.place) x.buffer) c.args.list.now x.rank-counter c.loop-rank-test.true _
-    (going w (viewed c.in_ok-place.place) c.turn.new.buffer) (rw is at (c.turn.ensures x.rank-counter))
+    (going w (viewed c.in_ok-place.place) c.take.new.buffer) (rw is at (c.take.ensures x.rank-counter))
     ∙ x.invariant
 
 pub returns-in_err-place : goal.returns-in_err-place
 returns-in_err-place c =
     let w = writes c.args.pass in
     let x = c.loop-rank in
-    let is = refused x.rank-counter c.turn.result c.map_err.result (search (rules, c.map_err.ensures.cases)) _ c.in_err-place.was in
+    let is = refused x.rank-counter c.take.result c.map_err.result (search (rules, c.map_err.ensures.cases)) _ c.in_err-place.was in
     let p = err_from_is_err_and c.from_residual.result c.from_residual.ensures.1 in
     rw (p.1, p.2, is.2)
     (stops (layout_of First) c.args.text.now (going w (viewed x.place) x.buffer) c.args.list.now x.rank-counter c.loop-rank-test.true _ w (viewed x.place)
-    is.0 c.turn.new.buffer (rw is.1 at (c.turn.ensures x.rank-counter)) (viewed c.args.start)
+    is.0 c.take.new.buffer (rw is.1 at (c.take.ensures x.rank-counter)) (viewed c.args.start)
     ∙ ap (from_place (viewed c.args.start)) x.invariant)
 
 pub returns : goal.returns

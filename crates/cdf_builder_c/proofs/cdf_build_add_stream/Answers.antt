@@ -4,6 +4,6 @@ use Rattle.cdf_builder_c.proofs.cdf_build_add_stream.Goals as goal
 
 pub returns : goal.returns
 returns c =
-    let left = c.store.ensures in
+    let left = c.store_answer.ensures in
     let all = called _ c.args.place.now _ _ c.builder_from.ensures c.add_stream.result _ c.add_stream.ensures _ left.number _ left.place in
     record { is = all.0; stays = all.1 }

@@ -2,4 +2,4 @@
 use Rattle.cdf_lookup.proofs.is_group.Goals as goal
 
 pub returns : goal.returns
-returns c = c.is_group.ensures _ c.args.s.now c.first.ensures
+returns c = c.is_group.ensures.listed _ c.args.s.now c.first.ensures

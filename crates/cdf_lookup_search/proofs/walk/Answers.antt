@@ -75,7 +75,7 @@ returns-in-Ended c =
     let is = c.outcome.ensures in
     let i = c.loop-next.invariant in
     let l = layout_of c.edition_of-edition.result in
-    let group = c.is_group-group.ensures l s c.first_as-next.ensures in
+    let group = c.is_group-group.ensures.listed l s c.first_as-next.ensures in
     rw (← c.edition_of-edition.ensures) (record {
       is = rw is (accepted l s q (reply_from i.0.0 (Err c.in-Err.fault)) c.loop-next.state (rw c.in-Err.is at i.0.1) _ group (ap number_of c.in-Ended.is));
       placed = rw is i.2;
@@ -88,7 +88,7 @@ returns-in_default c =
     let is = c.outcome.ensures in
     let i = c.loop-next.invariant in
     let l = layout_of c.edition_of-edition.result in
-    let group = c.is_group-group.ensures l s c.first_as-next.ensures in
+    let group = c.is_group-group.ensures.listed l s c.first_as-next.ensures in
     let f = c.in-Err.fault in
     rw (← c.edition_of-edition.ensures) (record {
       is =

@@ -10,22 +10,22 @@ use Rattle.cdf_reader_call_numbers.proofs.Telling.{started, unstarted, handed, r
 use Rattle.cdf_reader_call_numbers.proofs.tell.Goals.{then-is_start, else-is_start}
 use Rattle.cdf_reader_call_numbers.proofs.tell.Goals as goal
 
-pub returns-then-not-is_kept : goal.returns-then-not-is_kept
-returns-then-not-is_kept c = λ s last due again.
+pub returns-then-not-is_kept-clause-due : goal.returns-then-not-is_kept-clause-due
+returns-then-not-is_kept-clause-due c = λ s last due again.
     let a = c.args in
     let by = c.of.ensures ∙ ap (λ (u : Unit). part_by a.call 0 u.start u.end) last in
     leaves_new (handed a.call s a.place.now a.told due again c.in-Ok.a c.in-Ok.is (part_is c.of.result) by _ c.write_answer.ensures)
     (sym c.is_kept.ensures ∙ c.if-not-is_kept.true) _ c.write_place.ensures
 
-pub returns-else-not-is_kept : goal.returns-else-not-is_kept
-returns-else-not-is_kept c = λ s last due again.
+pub returns-else-not-is_kept-clause-due : goal.returns-else-not-is_kept-clause-due
+returns-else-not-is_kept-clause-due c = λ s last due again.
     let a = c.args in
     let by = c.of.ensures ∙ ap (λ (u : Unit). part_by a.call 0 u.start u.end) last in
     leaves_old (handed a.call s a.place.now a.told due again c.in-Ok.a c.in-Ok.is (part_is c.of.result) by _ c.write_answer.ensures)
     (sym c.is_kept.ensures ∙ c.if-not-is_kept.false)
 
-pub returns-after-is_start : goal.returns-after-is_start
-returns-after-is_start c = λ s last due again.
+pub returns-after-is_start-clause-due : goal.returns-after-is_start-clause-due
+returns-after-is_start-clause-due c = λ s last due again.
     let a = c.args in
     let f = c.in-Err.fault in
     let told = refused a.call s a.place.now a.told due again f c.in-Err.is c.write_answer-in-Err.new.a (search rules) in

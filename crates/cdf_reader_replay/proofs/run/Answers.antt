@@ -16,7 +16,8 @@ pub loop-k-preserved : goal.loop-k-preserved
 loop-k-preserved g c =
     rw c.after-c.ensures
     (goes g.T.Turns.heard _ _ _ c.loop-k.invariant c.loop-k-test.true c.in-Some.call (sym c.call_of.ensures ∙ c.in-Some.is) c.turn-told.result _
-    c.turn-told.ensures.is c.turn-told.ensures.held refl _ c.write_entry.ensures)
+    (c.turn-told.ensures.due c.loop-k.invariant.held c.edition_of-edition.ensures)
+    (c.turn-told.ensures.held c.loop-k.invariant.held c.edition_of-edition.ensures) refl _ c.write_entry.ensures)
 
 pub returns : goal.returns
 returns g c =

@@ -48,5 +48,5 @@ returns-in-Previous c =
     let a = c.args in
     let within = counts a.c (layout_of a.edition) (length a.s.now)
     (fit_needed a.c (layout_of a.edition) a.s.now a.call fit (ap is_start c.in-Previous.is)) in
-    let all = again _ _ _ _ may fit c.in-Previous.is _ (c.last_depth.ensures within) in
+    let all = again _ _ _ _ may fit c.in-Previous.is _ (c.last_depth.ensures.placed within) in
     rw c.hand_out.ensures (record { is = all.0; again = all.1 })

@@ -10,14 +10,14 @@ pub returns-then-not-is_group : goal.returns-then-not-is_group
 returns-then-not-is_group c =
     let s = c.args.s.now in
     let list = c.args.list.now in
-    let other = sym (c.is_group.ensures _ s c.first.ensures) ∙ c.if-not-is_group.true in
+    let other = sym (c.is_group.ensures.listed _ s c.first.ensures) ∙ c.if-not-is_group.true in
     let all = by_refusal _ s list 7 0 (refused_root _ s list c.requires other) (λ z. omega arith) _ (rw c.into.ensures) in
     record { is = all.0; ranks = all.1 }
 
 pub pass-t-requires : goal.pass-t-requires
 pass-t-requires c =
     let s = c.args.s.now in
-    (c.requires, sym (c.is_group.ensures _ s c.first.ensures) ∙ c.if-not-is_group.false)
+    (c.requires, sym (c.is_group.ensures.listed _ s c.first.ensures) ∙ c.if-not-is_group.false)
 
 pub returns-in_err-count-clause-ranks : goal.returns-in_err-count-clause-ranks
 returns-in_err-count-clause-ranks c =
@@ -29,7 +29,7 @@ returns-in_err-count-clause-ranks c =
 pub pass-requires : goal.pass-requires
 pass-requires c =
     let s = c.args.s.now in
-    (c.requires, sym (c.is_group.ensures _ s c.first.ensures) ∙ c.if-not-is_group.false)
+    (c.requires, sym (c.is_group.ensures.listed _ s c.first.ensures) ∙ c.if-not-is_group.false)
 
 pub returns : goal.returns
 returns c =

@@ -10,5 +10,5 @@ use Rattle.cdf_table_reader_c.proofs.cdf_table_first.Goals as goal
 pub returns : goal.returns
 returns c =
     let a = c.args in
-    c.tell.ensures a.s.now c.last_of.ensures
+    c.tell.ensures.due a.s.now c.last_of.ensures
     (c.table_first.ensures ∙ first_alike _ _ ∙ sym (start_named _ _ (view (place_from a.place.now)))) (λ e. start_other e)

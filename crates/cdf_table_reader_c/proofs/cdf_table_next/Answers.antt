@@ -8,5 +8,5 @@ use Rattle.cdf_table_reader_c.proofs.cdf_table_next.Goals as goal
 
 pub returns : goal.returns
 returns c =
-    c.tell.ensures c.args.s.now (ap (λ (p : Place). p.last) c.place_from.ensures)
+    c.tell.ensures.due c.args.s.now (ap (λ (p : Place). p.last) c.place_from.ensures)
     (rw c.place_from.ensures at (c.next.ensures ∙ next_alike _ _ _ ∙ sym (next_named _ _ _))) (λ e. next_other e)

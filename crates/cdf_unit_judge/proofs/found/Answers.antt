@@ -26,7 +26,7 @@ overflow_add-result c =
 pub returns-in-Err : goal.returns-in-Err
 returns-in-Err c =
     let few = byte_short _ (subst Short (ap bodied c.in-Err.is) c.requires) in
-    rw (c.told.ensures (omega (arith, few, c.prefix-p.ensures.near)), c.in-Err.is, c.prefix-p.ensures.is) (told_by _ _ _ _ _ _)
+    rw (c.told.ensures.near (omega (arith, few, c.prefix-p.ensures.near)), c.in-Err.is, c.prefix-p.ensures.is) (told_by _ _ _ _ _ _)
 
 pub returns-in-Ok : goal.returns-in-Ok
 unfolding found_by

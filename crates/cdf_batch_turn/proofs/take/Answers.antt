@@ -12,8 +12,8 @@ use Rattle.cdf_builder_join.specs.Joins.{refusal_of}
 use Rattle.cdf_batch_turn.specs.Passes.{writes, pass_number, crowded}
 use Rattle.cdf_batch_turn.proofs.Steady.{number_unknown, number_joins, number_faults, number_none, fault_bad, fault_good}
 use Rattle.cdf_batch_turn.proofs.Turning.{refused, crowding, built}
-use Rattle.cdf_batch_turn.proofs.turn.Goals as goal
-use Rattle.cdf_batch_turn.proofs.turn.Goals.{In_ok-fault}
+use Rattle.cdf_batch_turn.proofs.take.Goals as goal
+use Rattle.cdf_batch_turn.proofs.take.Goals.{In_ok-fault}
 
 pub returns-then-not-is_known : goal.returns-then-not-is_known
 returns-then-not-is_known c =
