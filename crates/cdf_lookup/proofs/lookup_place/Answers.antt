@@ -6,6 +6,8 @@ use Rattle.cdf_lookup_spec.specs.Told.{query_of}
 use Rattle.cdf_lookup.proofs.Deciding.{by_first, by_second, by_roots, of_first, of_second, of_neither}
 use Rattle.cdf_lookup.proofs.lookup_place.Goals as goal
 
+-- Of a stream that is refused the check is told,
+-- the first's before the second's, and each before a root is asked.
 pub returns-in_err-one-clause-is : goal.returns-in_err-one-clause-is
 returns-in_err-one-clause-is c =
     let a = c.args in

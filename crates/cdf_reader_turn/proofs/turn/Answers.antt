@@ -1,6 +1,6 @@
 -- Each return by its law (cdf_reader_advance/proofs/Stepped), which wants what is known at its place of the code: `lies` past the test of
 -- the part, `j` past the judge, `before` past the rank before, and `room` past the test of room.
-use Rattle.std.proofs.Common.{suc, ◌<◌, sym, ap, ◌∙◌, arith, add-one, length}
+use Rattle.std.proofs.Common.{suc, ◌<◌, refl, sym, ap, ◌∙◌, arith, add-one, length}
 use Rattle.std.specs.Prelude.{Err}
 use Rattle.cdf_unit_prefix.specs.Layout.{layout_of}
 use Rattle.cdf_unit_judge.specs.Answers.{judged}
@@ -26,7 +26,11 @@ returns-then-inner-at g c =
 
 pub returns-then-not-is_inside : goal.returns-then-not-is_inside
 returns-then-not-is_inside g c =
-    sym (outside _ _ _ _ _ c.close-left.ensures c.if-count-eq0.false c.if-inner-at.false (sym c.is_inside.ensures ∙ c.if-not-is_inside.true))
+    let a = c.args in
+    let judge = g.J.Judges.finds a.by.now (layout_of a.edition) in
+    rw
+    (outside judge a.s.now a.c _ _ c.close-left.ensures c.if-count-eq0.false c.if-inner-at.false (sym c.is_inside.ensures ∙ c.if-not-is_inside.true))
+    refl
 
 pub returns-in-Err : goal.returns-in-Err
 returns-in-Err g c =
@@ -40,8 +44,10 @@ returns-then-not-has_room g c =
     let judge = g.J.Judges.finds a.by.now (layout_of a.edition) in
     let left = leaves judge a.s.now a.c _ _ c.close-left.ensures in
     let before = ap suc c.rank_before-before.ensures ∙ before_is a.c _ left in
-    sym (no_room _ _ _ _ _ c.close-left.ensures c.if-count-eq0.false c.if-inner-at.false (sym c.is_inside.ensures ∙ c.if-not-is_inside.false)
+    rw
+    (no_room judge a.s.now a.c _ _ c.close-left.ensures c.if-count-eq0.false c.if-inner-at.false (sym c.is_inside.ensures ∙ c.if-not-is_inside.false)
     (sym c.find.ensures ∙ ap judged c.in-Ok.is) _ before (sym c.has_room.ensures ∙ c.if-not-has_room.true))
+    refl
 
 -- The ranks are low.
 pub returns : goal.returns
@@ -55,5 +61,7 @@ returns g c =
     let room = sym c.has_room.ensures ∙ c.if-not-has_room.false in
     let fits : length a.s.now < 18446744073709551616 = omega arith in
     let follow = following judge a.s.now a.c _ _ c.close-left.ensures c.if-count-eq0.false c.if-inner-at.false lies j _ before room fits in
-    enters_found _ _ _ _ _ c.close-left.ensures c.if-count-eq0.false c.if-inner-at.false lies j _ before room _ _ (add-one _)
-    (c.next_rank.ensures ∙ from_is _ _ _ follow)
+    rw
+    (← enters_found judge a.s.now a.c _ _ c.close-left.ensures c.if-count-eq0.false c.if-inner-at.false lies j _ before room _ _ (add-one _)
+    (c.next_rank.ensures ∙ from_is _ _ _ follow))
+    refl
